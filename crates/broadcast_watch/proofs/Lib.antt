@@ -1,0 +1,2 @@
+pub mod CellSetLemmas
+pub mod SilenceLemmas

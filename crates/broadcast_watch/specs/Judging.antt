@@ -42,3 +42,9 @@ judged period asked info (Some count) = if should_rise period asked info count t
 -- three repetition periods, in milliseconds: one unit is 1.883 seconds
 abbrev pub silence_of : ℕ → ℕ
 silence_of period = period * 1883 * 3
+
+-- What is on air no more.
+
+-- a RESTART of that Broadcast Message Type is of CBS, and its Recovery Indication says that data were lost (8.2.18, 8.2.24)
+abbrev pub takes_off_air : ℕ → ℕ → Bool
+takes_off_air kind recovery = nat_eq kind 0 && not (nat_eq recovery 0)

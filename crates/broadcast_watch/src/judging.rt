@@ -2,7 +2,7 @@
 
 ghost use Rattle.std.specs.Prelude.{◌≡◌};
 ghost use Rattle.std.specs.Option.{option_copied};
-ghost use Rattle.broadcast_watch.specs.Judging.{first_marked, has_reached, info_of, is_marked, judged, should_rise, silence_of};
+ghost use Rattle.broadcast_watch.specs.Judging.{first_marked, has_reached, info_of, is_marked, judged, should_rise, silence_of, takes_off_air};
 
 use cbsp_ie::CountEntry;
 use common::Cell;
@@ -72,4 +72,12 @@ pub fn silence_of(period: u16) -> u64
     ensures { result ≡ silence_of period }
 {
     u64::from(period) * UNIT * PERIODS
+}
+
+/// Whether a RESTART of that Broadcast Message Type and with that Recovery Indication takes messages with pages off the air (TS 48.049,
+/// 8.2.18 and 8.2.24): it is of CBS, and data were lost.
+pub fn takes_off_air(kind: u8, recovery: u8) -> bool
+    ensures { result ≡ takes_off_air kind recovery }
+{
+    kind == 0 && recovery != 0
 }

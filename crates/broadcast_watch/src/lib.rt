@@ -7,10 +7,11 @@
 
 mod airing;
 mod airings;
+mod cell_set;
 mod counted;
-mod group;
+mod hearing;
 mod judging;
-mod message_at;
+mod message_key;
 mod periods;
 mod silences;
 mod spell;
@@ -20,9 +21,8 @@ mod versions;
 pub use airing::Airing;
 pub use airings::Airings;
 pub use counted::Counted;
-pub use group::Group;
-pub use judging::{info_of, judged, silence_of};
-pub use message_at::MessageAt;
+pub use judging::{info_of, judged, silence_of, takes_off_air};
+pub use message_key::MessageKey;
 pub use periods::over_since;
 pub use silences::Silences;
 pub use spell::Spell;

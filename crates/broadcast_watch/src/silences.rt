@@ -1,171 +1,51 @@
-//! In which cells a message doesn't rise.
+//! In which cells of a BSC messages don't rise.
 
-ghost use Rattle.std.specs.Prelude.{◌≡◌, ◌++◌, [], IfOk, OnOk, OnErr, find};
-ghost use Rattle.std.specs.List.{filter, flat_map};
-ghost use Rattle.std.specs.Option.{option_copied};
-ghost use Rattle.broadcast_watch.specs.Silences.{heard, is_at, is_of_cell, is_outside, is_silent, kept, next_spell, others, silent_count, spells_after, spells_at, spells_of, with_group};
+ghost use Rattle.std.specs.Prelude.{◌≡◌, [], OnOk, OnErr};
+ghost use Rattle.broadcast_watch.specs.Silences.{Hears, Sets, kept, restarted, silent_count, spells_at};
 
+use crate::cell_set::CellSet;
 use crate::counted::Counted;
-use crate::group::Group;
-use crate::message_at::{MessageAt, is_message};
+use crate::hearing::spells_after;
+use crate::message_key::MessageKey;
 use crate::spell::Spell;
 use crate::spells::Spells;
 use crate::versions::is_among;
 use common::Cell;
 use link_rules::Version;
 use std::alloc::{AllocError, Global};
+use std::collections::BTreeMap;
 use std::marker::Model;
 
-/// Which numbers of broadcasts stand still, while a message is on air. It is told of replies to queries for active warnings, and has one
-/// spell at most for each cell in which the last such reply said that one is on air.
-#[derive(Debug, Drop)]
+/// Which numbers of broadcasts of a BSC stand still, while a message is on air. It is told of replies to queries for active warnings, and
+/// has of each message one spell at most for each cell in which the last such reply said that it is on air.
+#[derive(Drop)]
 pub struct Silences {
-    groups: Vec<Group>,
+    messages: BTreeMap<MessageKey, Spells>,
 }
 
 impl Model for Silences {
-    ghost use Rattle.std.specs.Prelude.{List};
-    ghost use Rattle.broadcast_watch.specs.declared.group.Group.{Group};
+    ghost use Rattle.broadcast_watch.specs.Silences.{Messages};
 
-    ghost Value = { List Group };
+    ghost Value = { Messages };
 
-    ghost view = { λ s. s.groups.items };
+    ghost view = { λ s. s.messages.entries };
 }
 
-/// The number that a reply gives of a cell, by the spell that there was.
-fn next_spell(limit: u64, now: u64, cell: Cell, count: u16, old: Option<&Spell>) -> Spell
-    ensures { result ≡ next_spell limit now cell count (option_copied old.entry) }
+/// Takes out the spells of these cells, of each message.
+fn take_cells(messages: &mut BTreeMap<MessageKey, Spells>, cells: &CellSet)
+    ensures { messages.new.entries ≡ restarted cells.now messages.old.entries }
 {
-    match old {
-        Some(old) if old.count == count => Spell {
-            cell,
-            count,
-            since: old.since,
-            is_silent: limit < now.saturating_sub(old.since),
-        },
-        _ => Spell {
-            cell,
-            count,
-            since: now,
-            is_silent: false,
-        },
-    }
+    messages.retain(|_, spells| {
+        spells.leave_out(cells);
+        true
+    });
 }
 
-fn is_of_cell(cell: Cell, spell: &Spell) -> bool
-    ensures { result ≡ is_of_cell cell spell.now }
+/// Takes out all messages but these versions.
+fn keep_only(messages: &mut BTreeMap<MessageKey, Spells>, versions: &[Version])
+    ensures { messages.new.entries ≡ kept versions.now messages.old.entries }
 {
-    spell.cell.lac == cell.lac && spell.cell.ci == cell.ci
-}
-
-/// The spell of the cell, if there is one.
-fn spell_of(spells: &[Spell], cell: Cell) -> Option<&Spell>
-    ensures { option_copied result ≡ find (is_of_cell cell) spells.now }
-{
-    spells.iter().find(|spell| is_of_cell(cell, spell))
-}
-
-/// Appends the spell of a cell in a reply, where its number is judged.
-fn push_spell(
-    spells: &mut Vec<Spell>,
-    old: &[Spell],
-    counted: Counted,
-    limit: u64,
-    now: u64,
-) -> Result<(), AllocError>
-    ensures { OnOk result (spells.new.items ≡ spells.old.items ++ spells_of limit now old.now counted) }
-{
-    let Counted { cell, count } = counted;
-    match count {
-        None => Ok(()),
-        Some(count) => {
-            let before = spell_of(old, cell);
-            spells.push(next_spell(limit, now, cell, count, before))?;
-            Ok(())
-        }
-    }
-}
-
-/// Appends the spells of the cells in a reply.
-fn push_spells(
-    spells: &mut Vec<Spell>,
-    old: &[Spell],
-    counted: &[Counted],
-    limit: u64,
-    now: u64,
-) -> Result<(), AllocError>
-    ensures { OnOk result (spells.new.items ≡ spells.old.items ++ flat_map (spells_of limit now old.now) counted.now) }
-{
-    for one in counted {
-        push_spell(spells, old, *one, limit, now)?;
-    }
-    Ok(())
-}
-
-fn is_outside(first: Cell, last: Cell, spell: &Spell) -> bool
-    ensures { result ≡ is_outside first last spell.now }
-{
-    spell.cell.is_before(&first) || last.is_before(&spell.cell)
-}
-
-/// Takes out the spells of the cells from the first to the last.
-fn take_between(spells: &mut Vec<Spell>, first: Cell, last: Cell)
-    ensures { spells.new.items ≡ filter (λ s. is_outside first last s) spells.old.items }
-{
-    spells.retain(|spell| is_outside(first, last, spell));
-}
-
-/// The spells of the cells that the query didn't ask for.
-fn outside(alloc: Global, old: &[Spell], first: Cell, last: Cell) -> Result<Vec<Spell>, AllocError>
-    ensures { IfOk result (λ spells. spells.items ≡ filter (λ s. is_outside first last s) old.now) }
-{
-    let mut spells = Vec::from_slice(alloc, old)?;
-    take_between(&mut spells, first, last);
-    Ok(spells)
-}
-
-/// All spells after a reply to a query for the cells from the first to the last.
-fn spells_after(
-    alloc: Global,
-    old: &[Spell],
-    first: Cell,
-    last: Cell,
-    counted: &[Counted],
-    limit: u64,
-    now: u64,
-) -> Result<Vec<Spell>, AllocError>
-    ensures { IfOk result (λ spells. spells.items ≡ spells_after limit now first last counted.now old.now) }
-{
-    let mut spells = outside(alloc, old, first, last)?;
-    push_spells(&mut spells, old, counted, limit, now)?;
-    Ok(spells)
-}
-
-fn is_at(at: MessageAt, group: &Group) -> bool
-    ensures { result ≡ is_at at group.now }
-{
-    is_message(at, group.at)
-}
-
-/// The group of the message, if there is one.
-fn group_of(groups: &[Group], at: MessageAt) -> Option<&Group>
-    ensures { option_copied result ≡ find (is_at at) groups.now }
-{
-    groups.iter().find(|group| is_at(at, group))
-}
-
-/// Takes the group of the message out.
-fn take_out(groups: &mut Vec<Group>, at: MessageAt)
-    ensures { groups.new.items ≡ others at groups.old.items }
-{
-    groups.retain(|group| !is_at(at, group));
-}
-
-/// Takes out the groups of all versions but these.
-fn keep_only(groups: &mut Vec<Group>, versions: &[Version])
-    ensures { groups.new.items ≡ kept versions.now groups.old.items }
-{
-    groups.retain(|group| is_among(versions, group.at.version));
+    messages.retain(|key, _| is_among(versions, key.version()));
 }
 
 impl Silences {
@@ -174,70 +54,110 @@ impl Silences {
         ensures { result ≡ [] }
     {
         Silences {
-            groups: Vec::new(alloc),
+            messages: BTreeMap::new(alloc),
         }
     }
 
-    /// Puts the spells of a message behind those of the others, if there is one.
-    fn put(&mut self, at: MessageAt, spells: Vec<Spell>) -> Result<(), AllocError>
-        ensures put { OnOk result (self.new ≡ with_group at spells.items self.old) }
+    /// Nothing is known of the version.
+    fn take_out(&mut self, version: Version)
+        ensures { Sets version [] self.old self.new }
+    {
+        self.messages.remove(&MessageKey::of(version));
+    }
+
+    /// Puts in the spells of a version of which nothing is known.
+    #[tactic(auto, using(crate::proofs::SilenceLemmas::sets_none))]
+    fn put(&mut self, version: Version, spells: Vec<Spell>) -> Result<(), AllocError>
+        requires { spells_at version self.old ≡ [] }
+        ensures put { OnOk result (Sets version spells.items self.old self.new) }
         ensures lost { OnErr result (self.new ≡ self.old) }
     {
         if spells.is_empty() {
             return Ok(());
         }
-        self.groups.push(Group {
-            at,
-            spells: Spells::from_vec(spells),
-        })?;
+        let spells = Spells::from_vec(spells);
+        self.messages.insert(MessageKey::of(version), spells)?;
         Ok(())
     }
 
-    /// A BSC answered a query for a message on air, in the cells from the first to the last, with these numbers, of which one that isn't
+    /// The BSC answered a query for a version on air, in the cells from the first to the last, with these numbers, of which one that isn't
     /// judged is `None`. A number that stood still for more than `limit` has its cell silent; `limit` and `now` are in milliseconds.
-    /// Where memory runs out, what is known of the message there is forgotten.
+    /// Where memory runs out, what is known of the version is forgotten.
+    #[tactic(auto, using(crate::proofs::SilenceLemmas::none_at, crate::proofs::SilenceLemmas::sets_again))]
     pub fn hear(
         &mut self,
         alloc: Global,
-        at: MessageAt,
+        version: Version,
         first: Cell,
         last: Cell,
         counted: &[Counted],
         limit: u64,
         now: u64,
     ) -> Result<(), AllocError>
-        ensures heard { OnOk result (self.new ≡ heard limit now at first last counted.now self.old) }
-        ensures lost { OnErr result (self.new ≡ others at self.old) }
+        ensures heard { OnOk result (Hears limit now version first last counted.now self.old self.new) }
+        ensures lost { OnErr result (Sets version [] self.old self.new) }
     {
-        let spells = spells_after(alloc, self.spells(at), first, last, counted, limit, now);
-        take_out(&mut self.groups, at);
-        self.put(at, spells?)
+        let spells = spells_after(
+            alloc,
+            self.spells(version),
+            first,
+            last,
+            counted,
+            limit,
+            now,
+        );
+        self.take_out(version);
+        self.put(version, spells?)
+    }
+
+    /// A RESTART took what was on air in these cells off the air: their numbers begin anew. Where memory runs out, all is forgotten.
+    pub fn restart(&mut self, alloc: Global, cells: &[Cell]) -> Result<(), AllocError>
+        ensures restarted { OnOk result (self.new ≡ restarted cells.now self.old) }
+        ensures lost { OnErr result (self.new ≡ []) }
+    {
+        match CellSet::of(alloc, cells) {
+            Ok(set) => {
+                take_cells(&mut self.messages, &set);
+                Ok(())
+            }
+            Err(error) => {
+                self.forget();
+                Err(error)
+            }
+        }
+    }
+
+    /// Forgets all: nothing is on air at the BSC any more.
+    pub fn forget(&mut self)
+        ensures { self.new ≡ [] }
+    {
+        self.messages.clear();
     }
 
     /// Forgets all versions but these.
     pub fn keep(&mut self, versions: &[Version])
         ensures { self.new ≡ kept versions.now self.old }
     {
-        keep_only(&mut self.groups, versions);
+        keep_only(&mut self.messages, versions);
     }
 
-    /// What is known of the cells of a message.
-    pub fn spells(&self, at: MessageAt) -> &[Spell]
-        ensures { result.now ≡ spells_at at self.now }
+    /// What is known of the cells of a version.
+    pub fn spells(&self, version: Version) -> &[Spell]
+        ensures { result.now ≡ spells_at version self.now }
     {
-        match group_of(&self.groups, at) {
-            Some(group) => group.spells.as_slice(),
+        match self.messages.get(&MessageKey::of(version)) {
+            Some(spells) => spells.as_slice(),
             None => &[],
         }
     }
 
-    /// In how many cells the message is silent.
-    pub fn silent_count(&self, at: MessageAt) -> usize
-        ensures { result ≡ silent_count at self.now }
+    /// In how many cells the version is silent.
+    pub fn silent_count(&self, version: Version) -> usize
+        ensures { result ≡ silent_count version self.now }
     {
-        self.spells(at)
-            .iter()
-            .filter(|spell| spell.is_silent)
-            .count()
+        match self.messages.get(&MessageKey::of(version)) {
+            Some(spells) => spells.silent_count(),
+            None => 0,
+        }
     }
 }

@@ -1,8 +1,8 @@
 //! Which numbers of broadcasts stand still, and since when messages are over by their periods, in numbers of their own.
 
-use crate::values::{bsc, yes};
+use crate::values::yes;
 use broadcast_watch::{
-    Airings, Counted, MessageAt, Silences, info_of, judged, over_since, silence_of,
+    Airings, Counted, Silences, info_of, judged, over_since, silence_of, takes_off_air,
 };
 use cbsp_ie::{CellId, CountEntry};
 use common::Cell;
@@ -18,25 +18,6 @@ fn version(serial: u16) -> Version {
     }
 }
 
-/// A message by the numbers of its BSC and of its version.
-#[derive(Clone, Copy)]
-struct Numbered {
-    bsc: u16,
-    serial: u16,
-}
-
-fn at(bsc: u16, serial: u16) -> Numbered {
-    Numbered { bsc, serial }
-}
-
-/// That version at the BSC of that number.
-fn message_of(rt: &impl Abort, numbered: Numbered) -> MessageAt {
-    MessageAt {
-        bsc: bsc(rt, numbered.bsc),
-        version: version(numbered.serial),
-    }
-}
-
 fn cell(ci: u16) -> Cell {
     Cell { lac: 100, ci }
 }
@@ -46,7 +27,7 @@ fn hears(
     rt: &impl Abort,
     alloc: Global,
     silences: &mut Silences,
-    message: Numbered,
+    serial: u16,
     counts: &[(u16, Option<u16>)],
     now: u64,
 ) {
@@ -59,22 +40,26 @@ fn hears(
         counted.push(one).expect(rt, "memory");
     }
     let (first, last) = (cell(1), cell(9));
-    let message = message_of(rt, message);
-    silences
-        .hear(alloc, message, first, last, counted.as_slice(), 1000, now)
-        .expect(rt, "memory");
+    let heard = silences.hear(
+        alloc,
+        version(serial),
+        first,
+        last,
+        counted.as_slice(),
+        1000,
+        now,
+    );
+    heard.expect(rt, "memory");
 }
 
-/// In so many cells the message is silent.
-fn silent_in(rt: &impl Abort, silences: &Silences, message: Numbered, count: usize, what: &str) {
-    let message = message_of(rt, message);
-    yes(rt, silences.silent_count(message) == count, what);
+/// In so many cells the version is silent.
+fn silent_in(rt: &impl Abort, silences: &Silences, serial: u16, count: usize, what: &str) {
+    yes(rt, silences.silent_count(version(serial)) == count, what);
 }
 
-/// So many numbers of the message are kept.
-fn spells_in(rt: &impl Abort, silences: &Silences, message: Numbered, count: usize, what: &str) {
-    let message = message_of(rt, message);
-    yes(rt, silences.spells(message).len() == count, what);
+/// So many numbers of the version are kept.
+fn spells_in(rt: &impl Abort, silences: &Silences, serial: u16, count: usize, what: &str) {
+    yes(rt, silences.spells(version(serial)).len() == count, what);
 }
 
 /// Cell 1 has these numbers, and cell 2 those, in replies at these times; and in so many cells the message is silent then.
@@ -90,7 +75,7 @@ const REPLIES: [(u16, u16, u64, usize, &str); 5] = [
 fn a_cell_is_silent_whose_number_stands_still(rt: HostRuntime) {
     let alloc = rt.alloc();
     let mut silences = Silences::new(alloc);
-    let one = at(1, 0xc000);
+    let one = 0xc000;
     for (first, second, now, count, what) in REPLIES {
         let counts = [(1, Some(first)), (2, Some(second))];
         hears(&rt, alloc, &mut silences, one, &counts, now);
@@ -102,7 +87,7 @@ fn a_cell_is_silent_whose_number_stands_still(rt: HostRuntime) {
 fn what_a_reply_leaves_out_is_forgotten(rt: HostRuntime) {
     let alloc = rt.alloc();
     let mut silences = Silences::new(alloc);
-    let one = at(1, 0xc000);
+    let one = 0xc000;
     let three = [(1, Some(7)), (2, Some(7)), (12, Some(7))];
     hears(&rt, alloc, &mut silences, one, &three, 0);
     hears(
@@ -128,21 +113,52 @@ fn what_a_reply_leaves_out_is_forgotten(rt: HostRuntime) {
 }
 
 #[test]
-fn messages_are_told_apart(rt: HostRuntime) {
+fn versions_are_told_apart(rt: HostRuntime) {
     let alloc = rt.alloc();
     let mut silences = Silences::new(alloc);
-    let (one, other) = (at(1, 0xc000), at(2, 0xc000));
-    let later = at(1, 0xc001);
+    let (one, later) = (0xc000, 0xc001);
     hears(&rt, alloc, &mut silences, one, &[(1, Some(3))], 0);
-    hears(&rt, alloc, &mut silences, other, &[(1, Some(3))], 2000);
     hears(&rt, alloc, &mut silences, later, &[(1, Some(3))], 2000);
-    silent_in(&rt, &silences, other, 0, "another BSC");
     silent_in(&rt, &silences, later, 0, "another version");
     hears(&rt, alloc, &mut silences, one, &[(1, Some(3))], 2000);
     silent_in(&rt, &silences, one, 1, "its own second reply");
     silences.keep(&[version(0xc001)]);
     silent_in(&rt, &silences, one, 0, "a version that has ended");
     spells_in(&rt, &silences, later, 1, "one that goes on");
+}
+
+/// Two versions are silent in cells 1 and 2.
+fn two_silent(rt: &impl Abort, alloc: Global) -> Silences {
+    let mut silences = Silences::new(alloc);
+    let counts = [(1, Some(3)), (2, Some(3))];
+    for now in [0, 2000] {
+        hears(rt, alloc, &mut silences, 0xc001, &counts, now);
+        hears(rt, alloc, &mut silences, 0xc000, &counts, now);
+    }
+    silences
+}
+
+#[test]
+fn a_restart_leaves_the_other_cells(rt: HostRuntime) {
+    let alloc = rt.alloc();
+    let mut silences = two_silent(&rt, alloc);
+    let cells = [cell(9), cell(2), cell(2)];
+    silences.restart(alloc, &cells).expect(&rt, "memory");
+    for serial in [0xc000, 0xc001] {
+        silent_in(&rt, &silences, serial, 1, "cell 1");
+        spells_in(&rt, &silences, serial, 1, "cell 1 alone");
+    }
+    silences.forget();
+    spells_in(&rt, &silences, 0xc000, 0, "a RESET");
+}
+
+/// The rows are a Broadcast Message Type, a Recovery Indication, and whether messages with pages are on air no more.
+#[test]
+fn a_restart_may_keep_what_is_on_air(rt: HostRuntime) {
+    let rows = [(0, 0, false), (0, 1, true), (1, 1, false), (2, 1, false)];
+    for (kind, recovery, want) in rows {
+        yes(&rt, takes_off_air(kind, recovery) == want, "a RESTART");
+    }
 }
 
 /// The rows are a repetition period, how many broadcasts were asked for, the Number of Broadcasts Info, the number, and what is judged.

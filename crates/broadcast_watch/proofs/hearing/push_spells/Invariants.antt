@@ -1,7 +1,7 @@
 use Rattle.std.proofs.Common.{◌≡◌, ◌++◌, drop}
 use Rattle.std.specs.List.{flat_map}
-use Rattle.broadcast_watch.specs.Silences.{spells_of}
-use Rattle.broadcast_watch.proofs.silences.push_spells.Given as goal
+use Rattle.broadcast_watch.specs.Spells.{spells_of}
+use Rattle.broadcast_watch.proofs.hearing.push_spells.Given as goal
 
 -- the spells so far, and those of the cells ahead, are all of them
 abbrev pub invariant-loop-one : goal.invariant-loop-one

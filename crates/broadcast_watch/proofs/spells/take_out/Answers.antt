@@ -1,0 +1,8 @@
+use Rattle.std.proofs.Common.{rules}
+use Rattle.std.proofs.lemmas.Fn.{filter_same}
+use Rattle.broadcast_watch.specs.Spells.{is_elsewhere}
+use Rattle.broadcast_watch.specs.declared.spell.Spell.{Spell}
+use Rattle.broadcast_watch.proofs.spells.take_out.Goals as goal
+
+pub returns : goal.returns
+returns c = filter_same _ (λ (s : Spell). is_elsewhere c.args.cells.now s) _ (λ s b f' k. search rules) _ _ c.retain.ensures.filtered
