@@ -3,23 +3,10 @@
 ghost use Rattle.std.specs.Prelude.{◌≡◌, None};
 
 use crate::journal_file::JournalFile;
+use crate::on_disk::OnDisk;
 use crate::open_fault::OpenFault;
 use framing::{Failed, FromRead, FromWrite, Sink};
 use std::fs::{File, Files, OpenOptions, TryLockError};
-
-/// That what stands in a file of the system stands there for good.
-#[derive(Clone, Copy)]
-pub struct OnDisk {
-    _private: (),
-}
-
-/// Has all that stands in the file stand there for good.
-fn synced(file: &File) -> Result<OnDisk, Failed> {
-    match file.sync_data() {
-        Ok(()) => Ok(OnDisk { _private: () }),
-        Err(_) => Err(Failed),
-    }
-}
 
 /// A file of the system, open at its end. The lock on it ends with the process.
 #[derive(Drop)]
@@ -53,7 +40,7 @@ impl DiskFile {
     /// Cuts off all octets behind the first `length`, for good.
     pub fn cut(&self, length: u64) -> Result<OnDisk, Failed> {
         match self.file.set_len(length) {
-            Ok(()) => synced(&self.file),
+            Ok(()) => OnDisk::of(&self.file),
             Err(_) => Err(Failed),
         }
     }
@@ -69,8 +56,8 @@ impl JournalFile for DiskFile {
     }
 
     fn sync(&mut self) -> Result<(), Failed> {
-        match synced(&self.file) {
-            Ok(OnDisk { _private: () }) => Ok(()),
+        match OnDisk::of(&self.file) {
+            Ok(_) => Ok(()),
             Err(fault) => Err(fault),
         }
     }
