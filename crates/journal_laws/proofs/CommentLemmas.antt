@@ -7,12 +7,12 @@ use Rattle.std.proofs.lemmas.List.{length-take}
 use Rattle.console.specs.Sessions.{Answers, AnswersWords, Responds, SessionState}
 use Rattle.console_text.specs.Lines.{longest_line, without_return}
 use Rattle.console_text.specs.Parts.{in_front, parts_of}
-use Rattle.console_text.specs.Words.{is_comment, non_empty, words_of}
+use Rattle.console_text.specs.Words.{non_empty, words_of}
 use Rattle.console_text.specs.declared.response.Response.TheVariants as response
 use Rattle.journal_laws.specs.Files.{IsComment}
 
 -- no more octets than before stand in front of a return
-return_shorter : (line : List ℕ) → length (without_return line) ≤ length line
+pub return_shorter : (line : List ℕ) → length (without_return line) ≤ length line
 return_shorter line =
     elim (eqb (slice_index line (length line - 1)) 13) as (λ b. length (cond b (take (length line - 1) line) line) ≤ length line) [
       | true ↦ omega (arith, length-take (length line - 1) line)

@@ -6,3 +6,4 @@ pub mod FileLemmas
 pub mod ReplayedLemmas
 pub mod GivenLemmas
 pub mod EnteredLemmas
+pub mod StartLemmas

@@ -20,12 +20,12 @@ use Rattle.journal_laws.proofs.StepLemmas.{Mirrors, answered_item, mirrors_then,
 use Rattle.centre_events.specs.declared.network.Network.{Network}
 
 -- the session after items
-abbrev session_of : SessionState → List Item → SessionState
+abbrev pub session_of : SessionState → List Item → SessionState
 session_of s [] = s
 session_of s (item ∷ items) = session_of (session_then s item) items
 
 -- the text of the answers to items
-abbrev text_of : Known → List Item → List ℕ
+abbrev pub text_of : Known → List Item → List ℕ
 text_of centre items = flat_map response_text (item_answers centre items)
 
 item_short : (item : Item) (octets : List ℕ) → IsItemLine item octets → length (without_return octets) ≤ longest_line
@@ -69,13 +69,13 @@ told_items centre s m (item ∷ items) (line ∷ lines) legal (inr are) = (
   refl,
 )
 
-mirrors_items : (centre : Known) (s : SessionState) → Mirrors centre s → (items : List Item) → AreLegal centre items → Mirrors (after_items items centre) (session_of s items)
+pub mirrors_items : (centre : Known) (s : SessionState) → Mirrors centre s → (items : List Item) → AreLegal centre items → Mirrors (after_items items centre) (session_of s items)
 mirrors_items centre s m [] legal = m
 mirrors_items centre s m (item ∷ items) legal =
     mirrors_items (after_item item centre) (session_then s item) (mirrors_then centre s m item legal.0) items legal.1
 
 -- where nothing has happened
-mirrors_new : (network : Network) (limit : ℕ) → Mirrors (new_centre network limit) (new_session network limit)
+pub mirrors_new : (network : Network) (limit : ℕ) → Mirrors (new_centre network limit) (new_session network limit)
 mirrors_new network limit = record {
   same = refl;
   whole = refl;
@@ -84,7 +84,7 @@ mirrors_new network limit = record {
 }
 
 -- an empty line asks for nothing
-told_nothing : (s : SessionState) → IsText s ([] ∷ []) s []
+pub told_nothing : (s : SessionState) → IsText s ([] ∷ []) s []
 told_nothing s = (response.Silence, s, [], omega arith, (refl, refl), (refl, refl), refl)
 
 pub journal_is_replayed : JournalIsReplayed

@@ -29,7 +29,7 @@ use Rattle.console_text.specs.declared.line.Line.{Line}
 use Rattle.console_text.specs.declared.line.Line.TheVariants as line
 use Rattle.console_text.specs.declared.response.Response.{Response}
 use Rattle.console_text.specs.declared.response.Response.TheVariants as response
-use Rattle.journal_text.specs.Reading.{IsLineOf, IsSentIn, NamesKept, StandsFor, asked}
+use Rattle.journal_text.specs.Reading.{IsLineOf, IsSentIn, NamesKept, StandsFor, asked, request_of}
 use Rattle.journal_laws.specs.Files.{Checkpoint, Entered, IsItemLine, IsLegalItem, Item, after_item, item_answer, with_entry}
 use Rattle.journal_laws.specs.Replayed.{all_by_desk_1, by_desk_1}
 use Rattle.journal_laws.proofs.KeptLemmas.{KeepsLinks, keeps_alike, keeps_links, kept_after, names_kept}
@@ -95,7 +95,7 @@ submits_line s o e a is other given =
     subst (λ p. SubmitsLine s p (accepted_as s a) (session_after s e a)) (sym is) ((given, refl), kept_same s e a other)
 
 -- what a line asks for is answered, where it stands for the event
-stands : (s : SessionState) (l : Line) (e : Event) (a : Answer) → StandsFor (generation_of s.kept) l e → verdict_in s e ≡ Ok a → Responds s l (accepted_as s a) (session_after s e a)
+pub stands : (s : SessionState) (l : Line) (e : Event) (a : Answer) → StandsFor (generation_of s.kept) l e → verdict_in s e ≡ Ok a → Responds s l (accepted_as s a) (session_after s e a)
 stands s (line.Up b) e a is given =
     let same : e ≡ event.LinkUp b = cc is in
     subst (λ x. BringsUp s b (accepted_as s a) (session_after s x a)) (sym same) (brings_up s b a (subst (λ x. verdict_in s x ≡ Ok a) same given))
@@ -117,7 +117,7 @@ stands s (line.Realert n heading text) e a is given = submits_line s _ e a is (m
 stands s l e a is given = submits_line s (event_of s l) e a is (sym (ap has_link_up is)) given
 
 -- the words of a line that asks for something
-answers_words : (s : SessionState) (words : List (List ℕ)) (l : Line) (r : Response) (new : SessionState) → asked words ≡ Some l → Responds s l r new → AnswersWords Responds s words r new
+pub answers_words : (s : SessionState) (words : List (List ℕ)) (l : Line) (r : Response) (new : SessionState) → asked words ≡ Some l → Responds s l r new → AnswersWords Responds s words r new
 answers_words s [] l r new is responds = absurd (cc is)
 answers_words s (first ∷ words) l r new is responds = step (is_comment first) is
   where
@@ -157,15 +157,31 @@ module _ (centre : Known) (s : SessionState) (m : Mirrors centre s) where
   in_journal : length s.centre.journal ≡ length centre.journal
   in_journal = ap (λ (c : Known). length c.journal) m.same ∙ map_length centre.journal
 
+  folds : Responds s line.Checkpoint (response.Folded (length centre.journal)) (with_all_folded s)
+  folds =
+      subst (λ t. MatchBool t (Says s (response.Refused refusal.Stale) (response.Folded (length centre.journal)) (with_all_folded s)) (Folds s (response.Folded (length centre.journal)) (with_all_folded s))) (sym stale)
+      (ap response.Folded (sym in_journal), refl)
+
   -- its answer
   pub answered_item : (item : Item) (octets : List ℕ) → IsLegalItem centre item → IsItemLine item octets → IsAnswered centre s item octets
   answered_item (Entered e) octets legal line_is =
       subst (λ n. Answers s (without_return octets) (response.Accepted n e.answer) (session_after s e.event e.answer)) (ap (λ (n : ℕ). n + 1) counted)
       (answers_event s octets e.event e.answer line_is (names_kept centre.settings (past centre) s.kept e.event e.answer m.kept legal) (given e legal))
   answered_item Checkpoint octets legal line_is =
-      subst (λ text. Answers s (without_return text) (response.Folded (length centre.journal)) (with_all_folded s)) (sym line_is)
-      (subst (λ t. MatchBool t (Says s (response.Refused refusal.Stale) (response.Folded (length centre.journal)) (with_all_folded s)) (Folds s (response.Folded (length centre.journal)) (with_all_folded s))) (sym stale)
-      (ap response.Folded (sym in_journal), refl))
+      subst (λ text. Answers s (without_return text) (response.Folded (length centre.journal)) (with_all_folded s)) (sym line_is) folds
+
+  -- what a line asks for is answered, where it stands for the event of an entry
+  pub answered_entry : (e : Entry) (octets : List ℕ) (request : Line) → IsLegalItem centre (Entered e) → request_of octets ≡ Some request
+      → (NamesKept (generation_of s.kept) e.event → StandsFor (generation_of s.kept) request e.event) → IsAnswered centre s (Entered e) octets
+  answered_entry e octets request legal is stands_for =
+      subst (λ n. Answers s (without_return octets) (response.Accepted n e.answer) (session_after s e.event e.answer)) (ap (λ (n : ℕ). n + 1) counted)
+      (answers_words s (words_of (without_return octets)) request (accepted_as s e.answer) (session_after s e.event e.answer) is
+      (stands s request e.event e.answer (stands_for (names_kept centre.settings (past centre) s.kept e.event e.answer m.kept legal)) (given e legal)))
+
+  -- and so is a checkpoint, however it is written
+  pub answered_checkpoint : (octets : List ℕ) → request_of octets ≡ Some line.Checkpoint → IsAnswered centre s Checkpoint octets
+  answered_checkpoint octets is =
+      answers_words s (words_of (without_return octets)) line.Checkpoint (response.Folded (length centre.journal)) (with_all_folded s) is folds
 
   -- and it mirrors the centre after the item
   pub mirrors_then : (item : Item) → IsLegalItem centre item → Mirrors (after_item item centre) (session_then s item)

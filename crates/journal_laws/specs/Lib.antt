@@ -1,3 +1,4 @@
 pub mod Files
 pub mod Given
 pub mod Replayed
+pub mod Starts

@@ -2,6 +2,7 @@
 
 ghost use Rattle.journal_laws.specs.Given.{AcceptedHasLine, AllEnteredHaveLines, EntriesHaveLines};
 ghost use Rattle.journal_laws.specs.Replayed.{JournalIsReplayed};
+ghost use Rattle.journal_laws.specs.Starts.{StartIsReplayed};
 
 /// Lemma: an event that a lawful centre accepts has a line, however it came in: asked for by a line of the console, as the
 /// report of a message that was read of a frame and that a BSC sends, as the RESTART that a server enters for a BSC, or as
@@ -26,4 +27,11 @@ pub fn all_entered_have_lines()
 #[tactic(auto, using(crate::proofs::ReplayedLemmas::journal_is_replayed))]
 pub fn journal_is_replayed()
     ensures { JournalIsReplayed }
+{}
+
+/// Lemma: what a start makes of the lines of a file is what `replay` makes of them, with a checkpoint where the start folded: each is
+/// accepted, and the events, their answers and their order are the same, as desk 1.
+#[tactic(auto, using(crate::proofs::StartLemmas::start_is_replayed))]
+pub fn start_is_replayed()
+    ensures { StartIsReplayed }
 {}

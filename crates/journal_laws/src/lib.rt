@@ -9,4 +9,5 @@ mod laws;
 
 pub use laws::{
     accepted_has_line, all_entered_have_lines, entries_have_lines, journal_is_replayed,
+    start_is_replayed,
 };

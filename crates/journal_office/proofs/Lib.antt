@@ -1,1 +1,4 @@
 pub mod PuttingLemmas
+pub mod TakingLemmas
+pub mod FileLemmas
+pub mod EnteringLemmas
