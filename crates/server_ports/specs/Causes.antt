@@ -13,6 +13,16 @@ use Rattle.server_ports.specs.declared.shut.Shut.{Shut}
 use Rattle.server_ports.specs.declared.shut.Shut.TheVariants as shut
 use Rattle.server_ports.specs.declared.side_end.SideEnd.{SideEnd}
 
+-- the operator cut the link
+abbrev pub is_cut : Shut → Bool
+is_cut shut.Cut = true
+is_cut other = false
+
+-- why a link ended by this program: the first cause, where none was there before and a side had not ended it
+abbrev pub shut_after : Bool → Option Shut → Option Shut → Option Shut
+shut_after true None s = s
+shut_after live before s = before
+
 -- what an error of a read or a write says of the connection
 abbrev pub broken_by : ErrorKind → Broken
 broken_by kind.BrokenPipe = broken.Closed

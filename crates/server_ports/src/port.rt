@@ -1,5 +1,8 @@
 //! The port of one BSC.
 
+ghost use Rattle.std.specs.Prelude.{◌≡◌, false};
+ghost use Rattle.server_ports.specs.Causes.{is_cut};
+
 use crate::connection::Connection;
 use crate::ended::Ended;
 use crate::entered::Entered;
@@ -10,17 +13,19 @@ use crate::port_pace::PortPace;
 use crate::port_state::PortState;
 use crate::shut::Shut;
 use crate::side_end::SideEnd;
+use broadcast_watch::Silences;
 use cell_register::BscId;
 use libc::net::{SHUT_RDWR, shutdown};
 use link_rules::{AliveStep, Cost, Overdue, Query, Repeat, Verdict, Version};
 use link_worker::Load;
 use office::desk::Desk;
+use std::alloc::Global;
 use std::net::{IpAddr, SocketAddr, TcpListener, TcpStream};
 use std::os::fd::AsRawFd;
 use std::sync::ledger::Ledger;
 use std::sync::{Condvar, Mutex, Wait};
 
-/// A port: where its BSC connects, and the two desks of its links.
+/// A port: where its BSC connects, the two desks of its links, and what its replies say of broadcasts.
 ///
 /// Times are in milliseconds of a clock that goes on. No lock is held while somebody waits for a time or a connection.
 pub struct Port<L: Ledger> {
@@ -30,6 +35,8 @@ pub struct Port<L: Ledger> {
     pub address: SocketAddr,
     pub read_desk: Mutex<Option<Desk<L>>>,
     pub write_desk: Mutex<Option<Desk<L>>>,
+    /// Which numbers of broadcasts stand still.
+    pub silences: Mutex<Silences>,
     pace: Mutex<PortPace>,
     state: Mutex<PortState>,
     changed: Condvar,
@@ -44,6 +51,7 @@ impl<L: Ledger> Drop for Port<L> {
             address: _address,
             read_desk: _read_desk,
             write_desk: _write_desk,
+            silences: _silences,
             pace: _pace,
             state: _state,
             changed: _changed,
@@ -52,13 +60,20 @@ impl<L: Ledger> Drop for Port<L> {
 }
 
 impl<L: Ledger> Port<L> {
-    pub fn new(bsc: BscId, listener: TcpListener, address: SocketAddr, pace: PortPace) -> Port<L> {
+    pub fn new(
+        alloc: Global,
+        bsc: BscId,
+        listener: TcpListener,
+        address: SocketAddr,
+        pace: PortPace,
+    ) -> Port<L> {
         Port {
             bsc,
             listener,
             address,
             read_desk: Mutex::new(None),
             write_desk: Mutex::new(None),
+            silences: Mutex::new(Silences::new(alloc)),
             pace: Mutex::new(pace),
             state: Mutex::new(PortState::new()),
             changed: Condvar::new(),
@@ -139,10 +154,13 @@ impl<L: Ledger> Port<L> {
         begun
     }
 
-    /// The read side has ended: the connection is shut, so that the write side ends too. The answer is what was known before.
-    pub fn end_read<R: Wait>(&self, rt: &R) -> Ended {
+    /// The read side has ended: the connection is shut, so that the write side ends too, and nothing is out any more. The answer is what
+    /// was known before.
+    pub fn end_read<R: Wait>(&self, rt: &R, now: u64) -> Ended {
         let ended = self.state.lock(rt).end_read();
         self.changed.notify_all();
+        let mut pace = self.pace.lock(rt);
+        pace.begin(now);
         ended
     }
 
@@ -152,11 +170,6 @@ impl<L: Ledger> Port<L> {
             .changed
             .wait_while(rt, self.state.lock(rt), |state| state.is_writing());
         state.end_link();
-    }
-
-    /// Nothing is out any more, since the link has ended.
-    pub fn end_pace<R: Wait>(&self, rt: &R, now: u64) {
-        self.pace.lock(rt).begin(now);
     }
 
     /// Waits for a link whose write side has to begin; `None` once the port is closing.
@@ -173,8 +186,10 @@ impl<L: Ledger> Port<L> {
         self.changed.notify_all();
     }
 
-    /// Ends the link that is up, and says why. `false` where there is none.
-    pub fn shut<R: Wait>(&self, rt: &R, shut: Shut) -> bool {
+    /// Ends the link that is up, whichever it is, and says why. `false` where there is none. An operator cuts one link alone: see `cut`.
+    pub fn shut<R: Wait>(&self, rt: &R, shut: Shut) -> bool
+        requires { is_cut shut ≡ false }
+    {
         self.state.lock(rt).shut(shut)
     }
 

@@ -1,5 +1,10 @@
 //! How fast the links of a port go on.
 
+ghost use Rattle.std.specs.Prelude.{◌≡◌, [], if◌then◌else◌};
+ghost use Rattle.link_rules.specs.Repeats.{IsKept};
+ghost use Rattle.link_rules.specs.Replies.{with_end, with_order};
+ghost use Rattle.server_ports.specs.Paces.{is_waiting};
+
 use crate::entered::Entered;
 use crate::figures::Figures;
 use crate::link_limits::LinkLimits;
@@ -70,7 +75,9 @@ impl PortPace {
 
     /// An order or a query is to go out, whose frame this is. A query is never told or held: it comes of a wish. It is asked where no
     /// order is pending, so the order before it has settled; that the same one goes out behind it may come of its answer.
-    pub(crate) fn send(&mut self, frame: &[u8], now: u64) -> Repeat {
+    pub(crate) fn send(&mut self, frame: &[u8], now: u64) -> Repeat
+        ensures { self.new.replies ≡ (if is_waiting result then self.old.replies else with_order now self.old.replies) }
+    {
         let repeat = if frame.first() == Some(&STATUS_QUERY) {
             self.orders.changed();
             Repeat::Go
@@ -126,7 +133,11 @@ impl PortPace {
     }
 
     /// A link came up, or ended: nothing is out.
-    pub(crate) fn begin(&mut self, now: u64) {
+    pub(crate) fn begin(&mut self, now: u64)
+        ensures replies { self.new.replies ≡ with_end self.old.replies }
+        ensures resets { self.new.resets ≡ with_end self.old.resets }
+        ensures orders { IsKept [] self.new.orders }
+    {
         self.replies.ended();
         self.resets.ended();
         self.orders.changed();

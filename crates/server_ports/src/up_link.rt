@@ -1,5 +1,8 @@
 //! The link of a port.
 
+ghost use Rattle.std.specs.Prelude.{◌≡◌, false};
+ghost use Rattle.server_ports.specs.Causes.{shut_after};
+
 use crate::connection::Connection;
 use crate::shut::Shut;
 
@@ -35,7 +38,11 @@ impl UpLink {
     }
 
     /// Has both sides end. Why, is kept where nothing had ended it before.
-    pub(crate) fn end(&mut self, shut: Option<Shut>) {
+    pub(crate) fn end(&mut self, shut: Option<Shut>)
+        ensures why { self.new.shut ≡ shut_after self.old.is_live self.old.shut shut }
+        ensures ended { self.new.is_live ≡ false }
+        ensures link { self.new.generation ≡ self.old.generation }
+    {
         if self.is_live && self.shut.is_none() {
             self.shut = shut;
         }
