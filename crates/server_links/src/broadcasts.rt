@@ -2,10 +2,9 @@
 
 use crate::counted::all_counted;
 use crate::shared::{Shared, now_of, second_of};
-use broadcast_watch::{Airings, MessageAt, Silences, over_since, silence_of};
+use broadcast_watch::{Airings, over_since, silence_of, takes_off_air};
 use cbsp_ie::Counts;
-use cbsp_messages::{ErrorIndication, Message};
-use cell_register::BscId;
+use cbsp_messages::{ErrorIndication, Message, Restart};
 use centre_events::answer::Answer;
 use centre_events::event::Event;
 use centre_events::network::Network;
@@ -13,6 +12,7 @@ use centre_events::outcome::Outcome;
 use centre_events::reply::Reply;
 use centre_past::lists::WarningRow;
 use centre_questions::SurveyedWarning;
+use common::Cell;
 use link_rules::Version;
 use lists_text::SilentRow;
 use office::receipt::Receipt;
@@ -25,14 +25,13 @@ use std::sync::{Mutex, Wait};
 use std::time::Clock;
 use warning_book::{Content, WarningId};
 
-/// What the replies of all BSCs said of broadcasts.
+/// What is known of broadcasts beside what each port has of its BSC.
 #[derive(Drop)]
 pub struct BroadcastWatch {
     /// How BSCs are asked, and for how many broadcasts.
     network: Network,
     /// When the server began, in seconds after 1970-01-01T00:00:00Z.
     begun: u64,
-    silences: Mutex<Silences>,
     airings: Mutex<Airings>,
 }
 
@@ -42,33 +41,8 @@ impl BroadcastWatch {
         BroadcastWatch {
             network,
             begun,
-            silences: Mutex::new(Silences::new(alloc)),
             airings: Mutex::new(Airings::new(alloc)),
         }
-    }
-
-    /// In how many cells of the BSC the version is silent.
-    pub fn silent_count<R: Wait>(&self, rt: &R, bsc: BscId, version: Version) -> usize {
-        let at = MessageAt { bsc, version };
-        self.silences.lock(rt).silent_count(at)
-    }
-
-    /// Appends the cells of the BSC in which the version is silent.
-    pub fn push_silent<R: Wait>(
-        &self,
-        rt: &R,
-        rows: &mut Vec<SilentRow>,
-        bsc: BscId,
-        version: Version,
-    ) -> Result<(), AllocError> {
-        let guard = self.silences.lock(rt);
-        for spell in guard.spells(MessageAt { bsc, version }) {
-            if spell.is_silent {
-                let cell = spell.cell;
-                rows.push(SilentRow { cell, bsc })?;
-            }
-        }
-        Ok(())
     }
 
     /// Since when the version is over that has that Warning Period, where it is on air by the board. One of which no reply said that it
@@ -83,12 +57,29 @@ impl BroadcastWatch {
         let aired = self.airings.lock(rt).last(version);
         over_since(period, aired.unwrap_or(self.begun), now)
     }
+}
 
-    /// Forgets all versions but these.
-    fn keep<R: Wait>(&self, rt: &R, versions: &[Version]) {
-        self.silences.lock(rt).keep(versions);
-        self.airings.lock(rt).keep(versions);
+/// In how many cells of the port's BSC the version is silent.
+pub fn silent_count<L: Ledger, R: Wait>(rt: &R, port: &Port<L>, version: Version) -> usize {
+    port.silences.lock(rt).silent_count(version)
+}
+
+/// Appends the cells of the port's BSC in which the version is silent.
+pub fn push_silent<L: Ledger, R: Wait>(
+    rt: &R,
+    port: &Port<L>,
+    rows: &mut Vec<SilentRow>,
+    version: Version,
+) -> Result<(), AllocError> {
+    let bsc = port.bsc;
+    let guard = port.silences.lock(rt);
+    for spell in guard.spells(version) {
+        if spell.is_silent {
+            let cell = spell.cell;
+            rows.push(SilentRow { cell, bsc })?;
+        }
     }
+    Ok(())
 }
 
 /// The version that a reply is about.
@@ -156,10 +147,17 @@ impl<L: Ledger, E: Write + Drop> Shared<L, E> {
         }
     }
 
+    /// Forgets all versions but these, those of the port's BSC with their numbers.
+    fn keep_versions<R: Wait>(&self, rt: &R, port: &Port<L>, versions: &[Version]) {
+        port.silences.lock(rt).keep(versions);
+        self.broadcasts.airings.lock(rt).keep(versions);
+    }
+
     /// The active warning whose current version that is, and its repetition period, if it has pages. What isn't active is forgotten.
     fn watched<R: Wait>(
         &self,
         rt: &R,
+        port: &Port<L>,
         version: Version,
     ) -> Result<Option<(WarningId, u16)>, AllocError> {
         let surveyed: Surveyed = self.office.survey(rt)?;
@@ -167,7 +165,7 @@ impl<L: Ledger, E: Write + Drop> Shared<L, E> {
         let versions = active_versions(self.alloc, warnings);
         let found = period_of(warnings, version);
         drop(surveyed);
-        self.broadcasts.keep(rt, versions?.as_slice());
+        self.keep_versions(rt, port, versions?.as_slice());
         Ok(found)
     }
 
@@ -175,7 +173,8 @@ impl<L: Ledger, E: Write + Drop> Shared<L, E> {
     fn hear_cells<R: Wait + Clock>(
         &self,
         rt: &R,
-        at: MessageAt,
+        port: &Port<L>,
+        version: Version,
         replies: &[Reply],
         counts: Option<&Counts>,
         period: u16,
@@ -187,10 +186,11 @@ impl<L: Ledger, E: Write + Drop> Shared<L, E> {
         let network = self.broadcasts.network;
         let counted = all_counted(self.alloc, network, period, replies, counts)?;
         let (limit, now) = (silence_of(period), now_of(rt));
-        let mut silences = self.broadcasts.silences.lock(rt);
-        let before = silences.silent_count(at);
-        silences.hear(self.alloc, at, first, last, counted.as_slice(), limit, now)?;
-        let count = silences.silent_count(at);
+        let counted = counted.as_slice();
+        let mut silences = port.silences.lock(rt);
+        let before = silences.silent_count(version);
+        silences.hear(self.alloc, version, first, last, counted, limit, now)?;
+        let count = silences.silent_count(version);
         Ok(if before < count { Some(count) } else { None })
     }
 
@@ -203,32 +203,29 @@ impl<L: Ledger, E: Write + Drop> Shared<L, E> {
         replies: &[Reply],
         counts: Option<&Counts>,
     ) -> Result<(), AllocError> {
-        let Some((warning, period)) = self.watched(rt, version)? else {
+        let Some((warning, period)) = self.watched(rt, port, version)? else {
             return Ok(());
         };
-        let at = MessageAt {
-            bsc: port.bsc,
-            version,
-        };
-        if let Some(count) = self.hear_cells(rt, at, replies, counts, period)? {
+        if let Some(count) = self.hear_cells(rt, port, version, replies, counts, period)? {
             self.tell_silent(rt, port, warning, count);
         }
         Ok(())
     }
 
-    /// The cells of an order that was answered: their numbers begin anew.
+    /// The BSC answered an order for the version in these cells, or can't take what was in flight for it there: their numbers begin anew.
     fn begin_cells<R: Wait + Clock>(
         &self,
         rt: &R,
-        at: MessageAt,
+        port: &Port<L>,
+        version: Version,
         replies: &[Reply],
     ) -> Result<(), AllocError> {
         let (Some(first), Some(last)) = (replies.first(), replies.last()) else {
             return Ok(());
         };
         let (first, last) = (first.cell, last.cell);
-        let mut silences = self.broadcasts.silences.lock(rt);
-        silences.hear(self.alloc, at, first, last, &[], 0, now_of(rt))
+        let mut silences = port.silences.lock(rt);
+        silences.hear(self.alloc, version, first, last, &[], 0, now_of(rt))
     }
 
     /// Where an order was carried out in some cell, its version came on air.
@@ -254,26 +251,7 @@ impl<L: Ledger, E: Write + Drop> Shared<L, E> {
         replies: &[Reply],
     ) -> Result<(), AllocError> {
         self.begin_airing(rt, version, replies)?;
-        let at = MessageAt {
-            bsc: port.bsc,
-            version,
-        };
-        self.begin_cells(rt, at, replies)
-    }
-
-    /// The BSC answered a KILL of the version, or can't take what was in flight for it: nothing is known of these cells.
-    fn hear_end<R: Wait + Clock>(
-        &self,
-        rt: &R,
-        port: &Port<L>,
-        version: Version,
-        replies: &[Reply],
-    ) -> Result<(), AllocError> {
-        let at = MessageAt {
-            bsc: port.bsc,
-            version,
-        };
-        self.begin_cells(rt, at, replies)
+        self.begin_cells(rt, port, version, replies)
     }
 
     /// An ERROR INDICATION answered what was in flight. A query and a KILL name their version by its old serial number.
@@ -286,7 +264,7 @@ impl<L: Ledger, E: Write + Drop> Shared<L, E> {
     ) -> Result<(), AllocError> {
         match (error.message_id, error.old) {
             (Some(message_id), Some(serial)) => {
-                self.hear_end(rt, port, version_of(message_id, serial), replies)
+                self.begin_cells(rt, port, version_of(message_id, serial), replies)
             }
             _ => Ok(()),
         }
@@ -316,24 +294,43 @@ impl<L: Ledger, E: Write + Drop> Shared<L, E> {
                 self.hear_write(rt, port, version_of(m.message_id, m.serial), replies)
             }
             Message::KillComplete(m) => {
-                self.hear_end(rt, port, version_of(m.message_id, m.serial), replies)
+                self.begin_cells(rt, port, version_of(m.message_id, m.serial), replies)
             }
             Message::KillFailure(m) => {
-                self.hear_end(rt, port, version_of(m.message_id, m.serial), replies)
+                self.begin_cells(rt, port, version_of(m.message_id, m.serial), replies)
             }
             Message::ErrorIndication(m) => self.hear_error(rt, port, m, replies),
             _ => Ok(()),
         }
     }
 
-    /// Takes what a reply says of broadcasts, by its receipt. Where memory runs out, it isn't known.
-    pub(crate) fn hear_reply<R: Wait + Clock>(&self, rt: &R, port: &Port<L>, receipt: &Receipt) {
+    /// Cells of the BSC can broadcast again. Where it lost its messages, they are on air there no more, and their numbers begin anew.
+    fn hear_restart<R: Wait>(
+        &self,
+        rt: &R,
+        port: &Port<L>,
+        restart: &Restart,
+        cells: &[Cell],
+    ) -> Result<(), AllocError> {
+        if !takes_off_air(restart.kind, restart.recovery) {
+            return Ok(());
+        }
+        port.silences.lock(rt).restart(self.alloc, cells)
+    }
+
+    /// Takes what a report says of broadcasts, by its receipt. Where memory runs out, it isn't known.
+    pub(crate) fn hear_report<R: Wait + Clock>(&self, rt: &R, port: &Port<L>, receipt: &Receipt) {
         let Event::Report(_, _, message) = &receipt.event else {
             return;
         };
-        let Answer::Replied(replies) = &receipt.answer else {
-            return;
+        let _ = match (&receipt.answer, message) {
+            (Answer::Replied(replies), _) => {
+                self.hear_message(rt, port, message, replies.as_slice())
+            }
+            (Answer::Listed(cells), Message::Restart(restart)) => {
+                self.hear_restart(rt, port, restart, cells.as_slice())
+            }
+            _ => Ok(()),
         };
-        let _ = self.hear_message(rt, port, message, replies.as_slice());
     }
 }

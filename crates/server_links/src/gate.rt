@@ -115,8 +115,8 @@ impl<'a, L: Ledger, E: Write + Drop, C: Wait + Clock> Gate for LinkGate<'a, L, E
         self.shared.begin_report(self.rt, self.port, load);
     }
 
-    fn replied<R: Wait>(&self, _rt: &R, receipt: &Receipt) {
-        self.shared.hear_reply(self.rt, self.port, receipt);
+    fn entered<R: Wait>(&self, _rt: &R, receipt: &Receipt) {
+        self.shared.hear_report(self.rt, self.port, receipt);
     }
 
     fn pass<R: Wait>(&self, _rt: &R, _b: BscId, passage: Passage<'_>) -> bool {

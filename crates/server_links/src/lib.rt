@@ -39,7 +39,7 @@ mod watching;
 mod writing;
 
 pub use accepting::accept_links;
-pub use broadcasts::{BroadcastWatch, active_version};
+pub use broadcasts::{BroadcastWatch, active_version, push_silent, silent_count};
 pub use closing::{close_all, close_port};
 pub use heavy_turn::HeavyTurn;
 pub use keeping::keep;

@@ -161,8 +161,7 @@ fn serve_link<L: Ledger, E: Write + Drop, R: Wait + Clock>(
         shared.tell(rt, port, &connection.peer, text);
     }
     let read = run_link(rt, shared, port, desk, connection, generation);
-    let ended = port.end_read(rt);
-    port.end_pace(rt, now_of(rt));
+    let ended = port.end_read(rt, now_of(rt));
     submit_loss(rt, shared, port, desk, generation);
     tell_end(rt, shared, port, connection, generation, read, ended);
 }

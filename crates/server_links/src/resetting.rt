@@ -145,7 +145,8 @@ fn write_frames(
 }
 
 /// Has the BSC of a link that has come up forget what it broadcasts, before any order is written, and waits until it has. Only then
-/// does the board count its messages as gone. What it sent before its answer is read after that. `Err` is how the link ends.
+/// does the board count its messages as gone, and what was known of their broadcasts is forgotten. What it sent before its answer is
+/// read after that. `Err` is how the link ends.
 pub(crate) fn reset_cells<L: Ledger, E: Write + Drop, R: Wait + Clock>(
     incoming: &mut Incoming<'_, L, E, R>,
     desk: &mut Desk<L>,
@@ -163,6 +164,7 @@ pub(crate) fn reset_cells<L: Ledger, E: Write + Drop, R: Wait + Clock>(
     write_frames(incoming.stream, frames, &kept)?;
     incoming.wait_reset(desk)?;
     let entered = submit_restarts(rt, shared, port, desk, generation);
+    port.silences.lock(rt).forget();
     port.reset_done(rt);
     match entered {
         Ok(()) => Ok(()),
