@@ -73,7 +73,7 @@ fn release<L: Ledger, P: Program, R: Wait>(
 }
 
 /// Serves the connections that get this console, one after another, until the consoles are closing. The other end of a connection sees
-/// its end once the console is free again.
+/// its end once the console is free again. Before each wait, which has an end, the desk lets go of its receipts of folded entries.
 pub fn serve_console<L: Ledger, P: Program, R: Wait + Clock>(
     rt: &R,
     operator: &Operator<'_, L, P>,
@@ -84,15 +84,15 @@ pub fn serve_console<L: Ledger, P: Program, R: Wait + Clock>(
         return;
     };
     for _ in rt.forever() {
+        release(rt, operator, console);
         match consoles.wait_connection(rt, slot) {
             Next::Connection(connection) => {
                 serve(rt, operator, console, &connection);
-                release(rt, operator, console);
                 consoles.give_back(rt, slot);
                 connection.shut(Shutdown::Both);
                 drop(connection);
             }
-            Next::Nothing => release(rt, operator, console),
+            Next::Nothing => {}
             Next::Closing => break,
         }
     }

@@ -2,6 +2,7 @@
 
 ghost use Rattle.std.specs.Prelude.{◌≡◌, ◌≤◌, ◌++◌, [], All, IfOk, IsTrue, drop, false};
 ghost use Rattle.std.specs.Io.KnownBytes.{Appends};
+ghost use Rattle.office.specs.Offices.{IsSameDesk};
 ghost use Rattle.office.specs.declared.receipt.Receipt.{Receipt};
 ghost use Rattle.server_operator.specs.Batches.{IsTold};
 
@@ -42,6 +43,7 @@ pub(crate) fn deliver<L: Ledger, S: Server, R: Wait + Clock, W: Write>(
     ensures unkept { IfOk result (λ goes_on. goes_on ≡ false → writer.new ≡ writer.old) }
     ensures none { batch.new.answers.items ≡ [] }
     ensures place { batch.new.place ≡ batch.old.place }
+    ensures same { IsSameDesk desk.old desk.new }
 {
     if !batch.is_written() || !text.is_empty() {
         let Some(kept) = operator.server.kept(rt, batch.place()) else {
@@ -69,6 +71,7 @@ pub(crate) fn answer<L: Ledger, S: Server, R: Wait + Clock, W: Write>(
     ensures told { IfOk result (λ goes_on. IsTrue goes_on → IsTold (W.contents writer.old) batch.old.answers.items (W.contents writer.new) batch.new.answers.items text.now) }
     ensures unkept { IfOk result (λ goes_on. goes_on ≡ false → writer.new ≡ writer.old) }
     ensures named { All (λ (r : Receipt). r.place ≤ batch.new.place) (drop desk.old.released desk.old.receipts) }
+    ensures same { IsSameDesk desk.old desk.new }
 {
     batch.count(last_place(desk));
     if batch.gather(text) {
