@@ -21,7 +21,7 @@ pub(crate) fn push_silent<L: Ledger, E: Drop, R: Wait>(
         return Ok(());
     };
     for port in &shared.ports {
-        shared.broadcasts.push_silent(rt, rows, port.bsc, version)?;
+        server_links::push_silent(rt, port, rows, version)?;
     }
     Ok(())
 }
@@ -37,7 +37,7 @@ fn silent_count<L: Ledger, E: Drop, R: Wait>(
     };
     let mut count = 0u64;
     for port in &shared.ports {
-        let here = shared.broadcasts.silent_count(rt, port.bsc, version);
+        let here = server_links::silent_count(rt, port, version);
         count = count.saturating_add(here as u64);
     }
     count.min(row.numbers.on_air)

@@ -6,10 +6,10 @@ ghost use Rattle.server_options.specs.Folds.{fold_every};
 use crate::ports::open_desk;
 use console_text::ReplayFault;
 use journal_file::{
-    DiskFile, Heading, JournalFile, LoadFault, Loaded, OpenFault, Writing, append_all, header, load,
+    DiskFile, Heading, JournalFile, LoadFault, Loaded, OpenFault, Writing, append_all, header,
 };
 use journal_keeper::{KeepFault, Keeper};
-use journal_office::Entering;
+use journal_office::{Entering, Start};
 use office::desk::Desk;
 use server_errors::{Errors, say_of_centre};
 use server_links::Shared;
@@ -142,34 +142,38 @@ fn tell_torn<E: Write + Drop, R: Wait + Clock>(
 
 /// Enters what stands in the file. What is torn is cut off. Nothing in the file is changed where it can't be read or entered.
 fn enter_lines<L: Ledger, E: Write + Drop, R: Wait + Clock>(
-    rt: &R,
-    alloc: Global,
+    start: &Start<'_, L, R>,
     options: &ServeOptions,
     errors: &Errors<E>,
-    entering: &mut Entering<'_, L, R>,
+    desk: &mut Desk<L>,
     file: &mut DiskFile,
 ) -> Result<(), ServeFault> {
+    let Some(mut entering) = Entering::begin(&*start, desk) else {
+        return Err(ServeFault::Journal);
+    };
     let read = {
         let mut source = file.source();
-        load(alloc, heading_of(options), &mut source, entering)
+        entering.enter_file(heading_of(options), &mut source)
     };
+    drop(entering);
     match read {
         Ok(loaded) => {
             mend(file, heading_of(options), loaded)?;
-            tell_torn(rt, alloc, errors, loaded);
+            tell_torn(start.rt, start.alloc, errors, loaded);
             Ok(())
         }
-        Err(fault) => Err(unread(rt, alloc, errors, fault)),
+        Err(fault) => Err(unread(start.rt, start.alloc, errors, fault)),
     }
 }
 
 /// Enters the loss of each link that was up, which is synced.
 fn enter_losses<L: Ledger, R: Wait>(
-    entering: &mut Entering<'_, L, R>,
+    start: &Start<'_, L, R>,
+    desk: &mut Desk<L>,
     writing: &mut Writing,
     file: &mut DiskFile,
 ) -> Result<(), ServeFault> {
-    match entering.lose_links(writing) {
+    match start.lose_links(desk, writing) {
         Ok(()) => {}
         Err(fault) => return Err(unkept(fault)),
     }
@@ -188,11 +192,15 @@ fn enter_all<L: Ledger, E: Write + Drop, R: Wait + Clock>(
     desk: &mut Desk<L>,
     file: &mut DiskFile,
 ) -> Result<Writing, ServeFault> {
-    let alloc = shared.alloc;
-    let mut entering = Entering::new(rt, alloc, &shared.office, desk, fold_every(options));
-    enter_lines(rt, alloc, options, &shared.errors, &mut entering, file)?;
-    let mut writing = Writing::new(alloc, shared.office.position(rt));
-    match enter_losses(&mut entering, &mut writing, file) {
+    let start = Start {
+        rt,
+        alloc: shared.alloc,
+        office: &shared.office,
+        every: fold_every(options),
+    };
+    enter_lines(&start, options, &shared.errors, desk, file)?;
+    let mut writing = Writing::new(shared.alloc, shared.office.position(rt));
+    match enter_losses(&start, desk, &mut writing, file) {
         Ok(()) => Ok(writing),
         Err(fault) => Err(fault),
     }

@@ -45,7 +45,7 @@ fn bind<R: Net<Stream = TcpStream, Listener = TcpListener>, L: Ledger>(
         options.alive_seconds,
         options.query_ms,
     );
-    Ok(Port::new(b, listener, address, pace))
+    Ok(Port::new(alloc, b, listener, address, pace))
 }
 
 /// Listens on the port of each BSC, behind the knock at it. What can't be listened on is said.
