@@ -1,8 +1,9 @@
-//! What no clause says of the end of a program: how long its consoles are waited for.
+//! What no clause says of the end of a program: how long its consoles are waited for; and for how long one holds its console that
+//! doesn't read.
 
-use crate::checks::yes;
+use crate::checks::{same, yes};
 use crate::given_consoles::entries_of;
-use crate::scripts::Step::{Connect, Pause, Reads, Sends, SendsOften};
+use crate::scripts::Step::{Connect, ConnectFree, Pause, Reads, Sends, SendsOften};
 use crate::scripts::{Script, Step};
 use std::alloc::Global;
 use std::fs::Files;
@@ -29,6 +30,19 @@ const UNREAD: &[Step] = &[
         20,
     ),
     Pause,
+];
+
+/// The same, and another that gets the console once a write has waited for ten seconds.
+const UNREAD_FOR_LONG: &[Step] = &[
+    Connect(0),
+    Sends(0, b"bsc add 1\n"),
+    Reads(0, b"ok 1\n"),
+    SendsOften(
+        0,
+        b"help\nhelp\nhelp\nhelp\nhelp\nhelp\nhelp\nhelp\nhelp\nhelp\n",
+        20,
+    ),
+    ConnectFree(1, b"bsc add 2\n", b"ok 2\n"),
 ];
 
 /// The least and the most time in which the script is played and the program ends, in milliseconds.
@@ -79,4 +93,15 @@ fn a_console_that_nobody_reads_is_waited_for_two_seconds(rt: HostRuntime) {
         least < 8_000,
         "less than the ten that a write may take",
     );
+}
+
+#[test]
+fn a_console_that_nobody_reads_is_free_after_a_while(rt: HostRuntime) {
+    let script = Script {
+        path: "consoles-held",
+        count: 1,
+        steps: UNREAD_FOR_LONG,
+    };
+    let found = entries_of(&rt, rt.alloc(), &script);
+    same(&rt, found, 2, "another gets the console");
 }

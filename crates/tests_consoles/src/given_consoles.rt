@@ -31,7 +31,7 @@ const NETWORK: Network = Network {
 };
 
 /// Serves one of the consoles.
-fn serves<L: Ledger, R: Wait + Clock>(
+pub(crate) fn serves<L: Ledger, R: Wait + Clock>(
     rt: &R,
     alloc: Global,
     office: &Office<L>,
@@ -124,7 +124,7 @@ fn runs<'x, L: Ledger + Send + Sync, R: Wait + Threads + Clock + Net + Abort + S
 }
 
 /// Takes the desks of the consoles.
-fn desks_of<L: Ledger, R: Wait + Abort>(
+pub(crate) fn desks_of<L: Ledger, R: Wait + Abort>(
     rt: &R,
     alloc: Global,
     consoles: &Consoles<L>,
@@ -156,7 +156,7 @@ fn settled<L: Ledger>(office: Office<L>, desks: Vec<Desk<L>>) -> Result<u64, Fau
 }
 
 /// So many consoles at that socket file, each with its desk.
-fn opened<L: Ledger, R: Wait + Files + Net + Abort>(
+pub(crate) fn opened<L: Ledger, R: Wait + Files + Net + Abort>(
     rt: &R,
     alloc: Global,
     office: &Office<L>,

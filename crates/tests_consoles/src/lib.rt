@@ -30,6 +30,8 @@ mod period_tests;
 #[cfg(test)]
 mod picture_tests;
 #[cfg(test)]
+mod releasing_tests;
+#[cfg(test)]
 mod saying_tests;
 #[cfg(test)]
 mod scripts;

@@ -14,6 +14,9 @@ pub(crate) const MOST: usize = 4;
 /// How long an answer may take, in seconds. A test may take a minute in the gate.
 const MOST_TIME: u64 = 50;
 
+/// How often it is tried to get a console.
+const MOST_TRIES: u32 = 100_000;
+
 /// The most octets of an answer.
 const MOST_OCTETS: usize = 200;
 
@@ -29,6 +32,8 @@ pub(crate) enum Step {
     /// The other end has closed it.
     IsClosed(usize),
     Closes(usize),
+    /// It connects again and again, until a console that is free answers what it sends so.
+    ConnectFree(usize, &'static [u8], &'static [u8]),
     /// Half a second goes by.
     Pause,
 }
@@ -95,6 +100,37 @@ fn sends<R: Abort>(rt: &R, mut stream: &UnixStream, octets: &[u8]) {
     stream.write_all(octets).expect(rt, "it is sent");
 }
 
+/// Connects, and sends these octets. The answer is the connection, where it is answered so.
+fn tries<R: Net + Abort>(rt: &R, path: &str, octets: &[u8], wanted: &[u8]) -> Option<UnixStream> {
+    let mut stream = connects(rt, path);
+    // (a console that is busy may close the connection before)
+    let _ = stream.write_all(octets);
+    let mut found = [0u8; MOST_OCTETS];
+    let place = found.get_mut(..wanted.len())?;
+    stream.read_exact(place).ok()?;
+    if found.starts_with(wanted) {
+        Some(stream)
+    } else {
+        None
+    }
+}
+
+/// The same again and again, until it is answered so.
+fn connects_free<R: Net + Clock + Abort>(
+    rt: &R,
+    path: &str,
+    octets: &[u8],
+    wanted: &[u8],
+) -> Option<UnixStream> {
+    for _ in 0..MOST_TRIES {
+        if let Some(stream) = tries(rt, path, octets, wanted) {
+            return Some(stream);
+        }
+        thread::sleep(rt, Duration::from_millis(100));
+    }
+    None
+}
+
 fn takes<R: Net + Clock + Abort>(
     rt: &R,
     path: &str,
@@ -111,6 +147,9 @@ fn takes<R: Net + Clock + Abort>(
         }
         Step::Reads(number, octets) => reads(rt, stream_of(rt, streams, number), octets),
         Step::IsClosed(number) => is_closed(rt, stream_of(rt, streams, number)),
+        Step::ConnectFree(number, octets, wanted) => {
+            puts(rt, streams, number, connects_free(rt, path, octets, wanted));
+        }
         Step::Closes(number) => puts(rt, streams, number, None),
         Step::Pause => thread::sleep(rt, Duration::from_millis(500)),
     }

@@ -1,31 +1,33 @@
 //! What no clause says of a journal that is folded while a file is kept: who submits waits for the fold, so that the journal never
-//! fills up; what is there at the start counts; and the fold is said.
+//! fills up; what is there at the start counts; the fold is said; and where the file fails, the links end and nothing is told.
 
 ghost use Rattle.std.specs.Prelude.{◌≡◌};
 
 use crate::checks::{same, yes};
+use crate::given_said::Said;
 use cell_register::BscId;
 use centre_events::event::Event;
 use centre_events::network::Network;
 use coverage_plan::Edit;
 use framing::Failed;
-use journal_file::{JournalFile, MemoryFile, Writing};
+use journal_file::{DiskFile, JournalFile, MemoryFile, Writing};
 use journal_keeper::{KeepFault, Keeper, Kept, keep_journal};
 use journal_office::{NoPeers, OfficeJournal};
 use link_rules::FoldPace;
 use office::desk::Desk;
 use office::office::Office;
 use server_errors::Errors;
-use server_links::{BroadcastWatch, HeavyTurn, LinkOptions, Shared};
+use server_links::{BroadcastWatch, HeavyTurn, LinkOptions, Shared, keep};
 use std::alloc::Global;
-use std::io::{Error, ErrorKind, Write};
+use std::fs::{File, Files};
+use std::io::Write;
 use std::marker::Brand;
 use std::process::Abort;
 use std::sync::ledger::{Blank, Ledger};
 use std::sync::{Condvar, Mutex, Wait};
+use std::thread;
 use std::thread::Threads;
 use std::time::{Clock, Duration};
-use std::{io, thread};
 
 /// How many entries the journal may hold. It is folded at nine tenths of that.
 const LIMIT: u32 = 40;
@@ -35,6 +37,12 @@ const NETWORK: Network = Network {
     plmn: [0x00, 0xf1, 0x10],
     broadcasts: 0,
 };
+
+/// A file of the system that takes no octets.
+const FULL: &str = "/dev/full";
+
+/// How often it is tried to open it.
+const MOST_TRIES: u32 = 10_000;
 
 /// What is said at the end.
 const LAST: &[u8] = b"cbc: journal fault\n";
@@ -58,26 +66,6 @@ impl<R: Clock> JournalFile for SlowFile<'_, R> {
     fn sync(&mut self) -> Result<(), Failed> {
         thread::sleep(self.rt, Duration::from_millis(5));
         self.file.sync()
-    }
-}
-
-/// What is said on standard error.
-#[derive(Drop)]
-struct Said<'a, R> {
-    rt: &'a R,
-    octets: &'a Mutex<Vec<u8>>,
-}
-
-impl<R: Wait> Write for Said<'_, R> {
-    fn write(&mut self, buf: &[u8]) -> io::Result<usize> {
-        match self.octets.lock(self.rt).extend_from_slice(buf) {
-            Ok(()) => Ok(buf.len()),
-            Err(_) => Err(Error::from(ErrorKind::OutOfMemory)),
-        }
-    }
-
-    fn flush(&mut self) -> io::Result<()> {
-        Ok(())
     }
 }
 
@@ -305,4 +293,67 @@ fn found_with_one_more<R: Wait + Clock + Threads + Sync + Abort>(rt: &R, alloc: 
 fn what_a_start_enters_counts_for_the_next_fold(rt: HostRuntime) {
     let left = found_with_one_more(&rt, rt.alloc());
     same(&rt, left, 0, "all are folded");
+}
+
+/// A file that takes no octets. Another test may have it open for a moment.
+fn full_file<R: Files<File = File> + Clock + Abort>(rt: &R) -> DiskFile {
+    for _ in 0..MOST_TRIES {
+        if let Ok(file) = DiskFile::open(rt, FULL) {
+            return file;
+        }
+        thread::sleep(rt, Duration::from_millis(1));
+    }
+    DiskFile::open(rt, FULL).expect(rt, "it can be opened and locked")
+}
+
+/// Enters an event, and keeps the journal in that file. The answer is whether the server ends, and whether all entries may be told of.
+fn fails_to_keep<L: Ledger, E: Write + Drop, R: Wait + Clock + Abort>(
+    rt: &R,
+    shared: &Shared<L, E>,
+    file: DiskFile,
+) -> (bool, bool) {
+    let b = bsc(rt, 1);
+    if let Ok(mut desk) = shared.office.open_desk(rt) {
+        let refused = brings_up(rt, shared, &mut desk, b, 0);
+        same(rt, refused, 0, "it is entered");
+    }
+    let writing = Writing::new(shared.alloc, 0);
+    keep(rt, shared, Keeper { writing, file });
+    let may_be_told = shared.wait_kept(rt, 0).is_some();
+    (shared.is_closing(rt), may_be_told)
+}
+
+/// The same over an office.
+fn ends_by_the_file<L: Ledger, R: Wait + Clock + Abort>(
+    rt: &R,
+    alloc: Global,
+    blank: Blank,
+    file: DiskFile,
+) -> (bool, bool)
+    requires name { blank.name ≡ L.name }
+    requires parts { blank.parts ≡ L.parts }
+    requires desks { blank.parts ≡ 1025 }
+{
+    let office: Office<L> = Office::new(alloc, blank, NETWORK, LIMIT);
+    let shared = shared_of(alloc, office, Vec::new(alloc));
+    let found = fails_to_keep(rt, &shared, file);
+    drop(shared);
+    found
+}
+
+/// The same at an office of its own.
+fn found_at_a_full_file<R: Wait + Clock + Abort>(
+    rt: &R,
+    alloc: Global,
+    file: DiskFile,
+) -> (bool, bool) {
+    ends_by_the_file::<Brand, R>(rt, alloc, Blank::new(1025), file)
+}
+
+#[test]
+fn a_file_that_fails_ends_the_links(rt: HostRuntime) {
+    let file = full_file(&rt);
+    let (ends, may_be_told) = found_at_a_full_file(&rt, rt.alloc(), file);
+    yes(&rt, ends, "the server ends");
+    yes(&rt, !may_be_told, "the last entry is never told of");
 }

@@ -7,9 +7,13 @@ mod checks;
 #[cfg(test)]
 mod disk_file_tests;
 #[cfg(test)]
+mod error_tests;
+#[cfg(test)]
 mod fold_tests;
 #[cfg(test)]
 mod given_journal;
+#[cfg(test)]
+mod given_said;
 #[cfg(test)]
 mod heavy_turn_tests;
 #[cfg(test)]

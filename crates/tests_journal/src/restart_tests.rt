@@ -5,9 +5,9 @@ ghost use Rattle.std.specs.Prelude.{◌≡◌, ◌≤◌};
 use crate::checks::{same, yes};
 use centre_events::network::Network;
 use framing::FromRead;
-use journal_file::{Heading, LoadFault, Loaded, MemoryFile, Writing, load};
+use journal_file::{Heading, LoadFault, Loaded, MemoryFile, Writing};
 use journal_keeper::KeepFault;
-use journal_office::Entering;
+use journal_office::{Entering, Start};
 use office::desk::Desk;
 use office::office::Office;
 use std::alloc::Global;
@@ -64,7 +64,7 @@ fn lines_in(octets: &[u8]) -> u64 {
 
 /// What a start makes of a file.
 #[derive(Drop)]
-struct Start {
+struct Found {
     result: Result<Loaded, LoadFault>,
     entries: u64,
     /// What the loss of its links adds to the file.
@@ -72,22 +72,19 @@ struct Start {
 }
 
 /// Reads the octets into the office, which folds after every so many entries, and enters the loss of its links.
-fn reads<L: Ledger, R: Wait>(
-    rt: &R,
-    alloc: Global,
-    office: &Office<L>,
+fn reads<L: Ledger, R: Wait + Abort>(
+    start: &Start<'_, L, R>,
     desk: &mut Desk<L>,
     octets: &[u8],
-    every: u64,
 ) -> Result<(Result<Loaded, LoadFault>, u64, MemoryFile), KeepFault> {
-    let mut entering = Entering::new(rt, alloc, office, desk, every);
-    let mut source = FromRead::new(octets);
-    let result = load(alloc, HEADING, &mut source, &mut entering);
-    let entries = office.position(rt);
-    let mut writing = Writing::new(alloc, entries);
-    let mut file = MemoryFile::new(Vec::new(alloc), 1_000_000, 1_000);
+    let mut entering = Entering::begin(&*start, desk).expect(start.rt, "a fresh office");
+    let result = entering.enter_file(HEADING, &mut FromRead::new(octets));
+    drop(entering);
+    let entries = start.office.position(start.rt);
+    let mut writing = Writing::new(start.alloc, entries);
+    let mut file = MemoryFile::new(Vec::new(start.alloc), 1_000_000, 1_000);
     if result.is_ok() {
-        entering.lose_links(&mut writing)?;
+        start.lose_links(desk, &mut writing)?;
     }
     match writing.keep(&mut file) {
         Ok(_) => Ok((result, entries, file)),
@@ -103,7 +100,7 @@ fn starts<L: Ledger, R: Wait + Abort>(
     limit: u32,
     every: u64,
     octets: &[u8],
-) -> Start
+) -> Found
     requires name { blank.name ≡ L.name }
     requires parts { blank.parts ≡ L.parts }
     requires desks { blank.parts ≡ 1025 }
@@ -111,14 +108,18 @@ fn starts<L: Ledger, R: Wait + Abort>(
 {
     let office: Office<L> = Office::new(alloc, blank, NETWORK, limit);
     let mut desk = office.open_desk(rt).expect(rt, "a desk");
-    let (result, entries, file) = reads(rt, alloc, &office, &mut desk, octets, every).expect(
+    let start = Start {
         rt,
-        "its lines are put",
-    );
+        alloc,
+        office: &office,
+        every,
+    };
+    let (result, entries, file) = reads(&start, &mut desk, octets).expect(rt, "its lines are put");
+    drop(start);
     drop(desk);
     drop(office);
     let added = Vec::from_slice(alloc, file.octets()).expect(rt, "memory");
-    Start {
+    Found {
         result,
         entries,
         added,
@@ -132,7 +133,7 @@ fn found_at_start<R: Wait + Abort>(
     limit: u32,
     every: u64,
     octets: &[u8],
-) -> Start
+) -> Found
     requires limit { limit ≤ 4000000 }
 {
     starts::<Brand, R>(rt, alloc, Blank::new(1025), limit, every, octets)

@@ -1,5 +1,5 @@
 //! What no clause says of a checkpoint: that it can succeed, that desks hold no more receipts than came since, that a side that
-//! waits lets go of its own, and that a full journal has room again.
+//! waits or reads lets go of its own, and that a full journal has room again.
 
 ghost use Rattle.std.specs.Prelude.{◌≡◌};
 
@@ -10,9 +10,9 @@ use cell_register::BscId;
 use centre_events::event::Event;
 use centre_events::refusal::Refusal;
 use coverage_plan::Edit;
-use framing::FromWrite;
 use framing::faulty::FailsAfter;
-use link_worker::{End, OpenGate, write_side};
+use framing::{FromRead, FromWrite};
+use link_worker::{End, OpenGate, read_side, write_side};
 use office::desk::Desk;
 use office::office::Office;
 use office::wake::Wake;
@@ -181,4 +181,38 @@ fn goes_on<L: Ledger, R: Wait + Abort>(rt: &R, alloc: Global, blank: Blank)
 #[test]
 fn a_full_journal_has_room_after_a_checkpoint(rt: HostRuntime) {
     goes_on::<Brand, _>(&rt, rt.alloc(), Blank::new(1025));
+}
+
+/// How the side ends over a connection over which nothing comes.
+fn reads_nothing<L: Ledger, R: Wait + Abort>(
+    rt: &R,
+    alloc: Global,
+    office: &Office<L>,
+    desk: &mut Desk<L>,
+) -> End {
+    let mut source = FromRead::new(b"".as_slice());
+    let b = first_bsc(rt);
+    read_side(rt, alloc, office, desk, b, LINK, &mut source, &OpenGate)
+}
+
+/// How many receipts a desk holds after a side read over it, of six that are folded.
+fn held_after_reading<L: Ledger, R: Wait + Abort>(rt: &R, alloc: Global, blank: Blank) -> usize
+    requires name { blank.name ≡ L.name }
+    requires parts { blank.parts ≡ L.parts }
+    requires desks { blank.parts ≡ 1025 }
+{
+    let (office, mut desk) = linked::<L, R>(rt, alloc, blank, 1000);
+    folds(rt, &office, 6);
+    let end = reads_nothing(rt, alloc, &office, &mut desk);
+    same(rt, end, End::PeerEnded, "the side ends");
+    let count = desk.receipts().len();
+    drop(desk);
+    drop(office);
+    count
+}
+
+#[test]
+fn a_side_that_reads_lets_go_of_folded_receipts(rt: HostRuntime) {
+    let held = held_after_reading::<Brand, _>(&rt, rt.alloc(), Blank::new(1025));
+    same(&rt, held, 0, "receipts are held");
 }

@@ -7,6 +7,8 @@
 #[cfg(test)]
 mod checks;
 #[cfg(test)]
+mod counting_tests;
+#[cfg(test)]
 mod folding_tests;
 #[cfg(test)]
 mod following_tests;

@@ -1,6 +1,6 @@
 //! What no clause says of the sides of a link: that the gate is asked before each report with what it asks of the centre, and told
-//! after it whether it answered what was in flight, once it was shown the receipt of one that did; and of each order its frame and the
-//! place of its entry, before it is written.
+//! after it whether it answered what was in flight, once it was shown the receipt of one that was entered; and of each order its frame
+//! and the place of its entry, before it is written.
 
 ghost use Rattle.std.specs.Prelude.{◌≡◌};
 
@@ -24,9 +24,9 @@ use std::sync::{Mutex, Wait};
 /// The place of the first order's entry, the next one after that in which the link came up.
 const PLACE: u64 = LINK + 1;
 
-/// How many orders with the first order's frame and place, other orders, replies and other reports passed. Of how many replies the
-/// receipt was shown before they passed. How many reports were asked for before they passed, once all before them had passed; their
-/// octets, and how many of them may name any number of cells.
+/// How many orders with the first order's frame and place, other orders, replies and other reports passed. Of how many replies, and of
+/// how many indications, the receipt was shown before they passed. How many reports were asked for before they passed, once all before
+/// them had passed; their octets, and how many of them may name any number of cells.
 #[derive(Clone, Copy, Debug, PartialEq, Eq)]
 struct Passed {
     orders: u32,
@@ -34,6 +34,7 @@ struct Passed {
     replies: u32,
     reports: u32,
     shown: u32,
+    listed: u32,
     asked: u32,
     octets: usize,
     any: u32,
@@ -45,6 +46,7 @@ const NOTHING: Passed = Passed {
     replies: 0,
     reports: 0,
     shown: 0,
+    listed: 0,
     asked: 0,
     octets: 0,
     any: 0,
@@ -89,10 +91,14 @@ fn asked(passed: Passed, load: Load) -> Passed {
 /// With a receipt that is shown.
 fn shown(passed: Passed, receipt: &Receipt) -> Passed {
     let mut more = passed;
-    if let Answer::Replied(_) = &receipt.answer {
-        if passed.shown == passed.replies {
+    match &receipt.answer {
+        Answer::Replied(_) if passed.shown == passed.replies => {
             more.shown = passed.shown.saturating_add(1);
         }
+        Answer::Listed(_) if passed.listed == passed.reports => {
+            more.listed = passed.listed.saturating_add(1);
+        }
+        _ => {}
     }
     more
 }
@@ -103,7 +109,7 @@ impl Gate for Counts {
         *passed = asked(*passed, load);
     }
 
-    fn replied<R: Wait>(&self, rt: &R, receipt: &Receipt) {
+    fn entered<R: Wait>(&self, rt: &R, receipt: &Receipt) {
         let mut passed = self.passed.lock(rt);
         *passed = shown(*passed, receipt);
     }
@@ -183,6 +189,7 @@ fn a_gate_is_told_what_passes(rt: HostRuntime) {
         replies: 1,
         reports: 2,
         shown: 1,
+        listed: 1,
         asked: 3,
         octets: 40,
         any: 1,
