@@ -1,5 +1,6 @@
 //! What no clause says of a server's consoles: that it goes on with them, and what ends it.
 
+use crate::checks::yes;
 use crate::given_plays::{Act, Play, USUAL, played};
 use crate::given_texts::Wanted;
 use std::fs;
@@ -26,10 +27,12 @@ const OUTLIVES: Play = Play {
     ..USUAL
 };
 
-/// `quit` at standard input ends the program, and `watch` is no line there.
+/// `quit` at standard input ends the program, which takes its socket file away, and `watch` is no line there.
 #[test]
 fn standard_input_ends_consoles(rt: HostRuntime) {
     played(&rt, rt.alloc(), &QUITS);
+    let left = fs::remove_file(&rt, "consoles-of-another").is_ok();
+    yes(&rt, !left, "the socket file is gone");
 }
 
 const QUITS: Play = Play {

@@ -3,9 +3,9 @@
 ghost use Rattle.std.specs.Prelude.{◌≤◌};
 
 use crate::checks::{same, yes};
-use crate::console::is_told;
 use crate::given_texts::{Wanted, has, has_time, plain};
 use crate::peer::{PATIENCE, connected, fails, gets, is_closed, next_frame, sends};
+use crate::socket_console::is_told;
 use crate::text_files::TextFiles;
 use centre_events::network::Network;
 use console_text::options::{FOLD, MOST_ENTRIES};
@@ -381,7 +381,7 @@ fn free_port<R: Abort + Net<Stream = TcpStream, Listener = TcpListener>>(rt: &R)
 }
 
 /// The words of a command line.
-fn words_of(rt: &impl Abort, alloc: Global, play: &Play, base: u16) -> Vec<String> {
+pub(crate) fn words_of(rt: &impl Abort, alloc: Global, play: &Play, base: u16) -> Vec<String> {
     let mut words = Vec::new(alloc);
     for word in ["cbc", "serve"] {
         add_word(rt, alloc, &mut words, word);

@@ -293,6 +293,20 @@ const DIRECTORY: Play = Play {
     ..USUAL
 };
 
+/// A file that takes lines and can't be synced, here that of the null device, which another test may have open.
+#[test]
+fn a_file_that_cannot_be_synced_is_refused(rt: HostRuntime) {
+    played(&rt, rt.alloc(), &UNSYNCED);
+}
+
+const UNSYNCED: Play = Play {
+    words: &["--keep", "/dev/null"],
+    status: 1,
+    answers: Wanted::Is(""),
+    said: Wanted::Bounds("cbc: journal ", "\n"),
+    ..USUAL
+};
+
 /// Another program keeps its journal in the file. Nothing is written to it.
 #[test]
 fn a_file_in_use_is_refused(rt: HostRuntime) {

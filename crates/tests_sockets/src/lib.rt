@@ -11,8 +11,6 @@ mod alive_tests;
 #[cfg(test)]
 mod checks;
 #[cfg(test)]
-mod console;
-#[cfg(test)]
 mod console_tests;
 #[cfg(test)]
 mod given_plays;
@@ -29,6 +27,8 @@ mod operator_tests;
 #[cfg(test)]
 mod peer;
 #[cfg(test)]
+mod port_tests;
+#[cfg(test)]
 mod query_tests;
 #[cfg(test)]
 mod reset_tests;
@@ -38,6 +38,8 @@ mod serving_tests;
 mod settle_tests;
 #[cfg(test)]
 mod silent_tests;
+#[cfg(test)]
+mod socket_console;
 #[cfg(test)]
 mod text_files;
 #[cfg(test)]

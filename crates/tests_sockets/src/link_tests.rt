@@ -167,6 +167,36 @@ const NEVER_SETTLES: Play = Play {
     ..USUAL
 };
 
+/// A BSC that says each time behind its reply that it lost the message gets the same order again and again. It isn't said that it
+/// doesn't settle, since its table changed between.
+#[test]
+fn an_order_after_a_restart_is_new(rt: HostRuntime) {
+    played(&rt, rt.alloc(), &RESTARTS_AGAIN);
+}
+
+/// The WRITE-REPLACE COMPLETE, and a RESTART of all cells, without data, behind it.
+const WRITTEN_AND_LOST: &[u8] =
+    b"\x02\x00\x00\x10\x0e\x11\x12\x03\xc0\x00\x04\x00\x05\x01\x00\x64\x00\x07\x12\x00\
+\x13\x00\x00\x08\x04\x00\x01\x06\x16\x00\x0d\x01";
+
+const RESTARTS_AGAIN: Play = Play {
+    acts: &[
+        Act::Lines(ONE_CELL, 4),
+        Act::Connects(1, 1),
+        Act::Says("link 5 is up"),
+        Act::Types(ISSUE, "ok 6 warning 1 serial C000\n"),
+        Act::Answers(0, WRITE, WRITTEN_AND_LOST),
+        Act::Answers(0, WRITE, WRITTEN_AND_LOST),
+        Act::Answers(0, WRITE, WRITTEN_AND_LOST),
+        Act::Answers(0, WRITE, WRITTEN),
+        Act::Repeats("board 1\n", ON_AIR),
+        Act::Lines("quit\n", 0),
+    ],
+    answers: Wanted::Settled("20"),
+    said: Wanted::Is(""),
+    ..USUAL
+};
+
 /// Thirty cells of BSC 1, and one of BSC 2, in an area.
 const CELLS: &str = "bsc add 1\nbsc add 2\n\
 cell add 100 0 1\ncell add 100 1 1\ncell add 100 2 1\ncell add 100 3 1\ncell add 100 4 1\n\

@@ -2,6 +2,7 @@
 
 use crate::given_plays::{Act, Play, USUAL, played};
 use crate::given_texts::Wanted;
+use crate::keep_tests::{Kept, keeps};
 
 /// A link that is up is cut, and one that isn't is not. The BSC connects once more and its next link is cut too.
 #[test]
@@ -74,6 +75,31 @@ const AFTER_AN_UPDATE: Play = Play {
     answers: Wanted::Settled("40"),
     said: Wanted::HasNot(STAYS, "warning 2"),
     ..USUAL
+};
+
+/// A warning is on air at a BSC that had a port in the run before and has none now. It isn't said that it is down.
+#[test]
+fn nothing_is_said_of_a_bsc_without_a_port(rt: HostRuntime) {
+    keeps(&rt, &WITHOUT_A_PORT);
+}
+
+const WITHOUT_A_PORT: Kept = Kept {
+    path: "journal-of-two-ports",
+    before: Some(
+        "# cbc journal, network 00f110\nbsc add 1\nbsc add 2\ncell add 100 7 2\narea add Coast\narea put Coast 100\nissue 4370 3 15 0 30 d4f29c0e Coast\nup 2\nsend 2\nrx 2 020000060e111203c000\ndown 2\n",
+    ),
+    after: "# cbc journal, network 00f110\nbsc add 1\nbsc add 2\ncell add 100 7 2\narea add Coast\narea put Coast 100\nissue 4370 3 15 0 30 d4f29c0e Coast\nup 2\nsend 2\nrx 2 020000060e111203c000\ndown 2\nstop 1\n",
+    play: Play {
+        words: &["--keep", "journal-of-two-ports"],
+        acts: &[
+            Act::Types("board 1\n", ON_AIR),
+            Act::Types("stop 1\n", "ok 11\n"),
+            Act::Lines("quit\n", 0),
+        ],
+        answers: Wanted::Is("settled 11\n"),
+        said: Wanted::Is(""),
+        ..USUAL
+    },
 };
 
 /// A warning is on air at a BSC that is cut. Another of the same identifier is wanted elsewhere alone.

@@ -1,5 +1,5 @@
-//! What no clause says of a warning that is on air and isn't broadcast: that this is said, and shown by `warning W`; and that an emergency
-//! warning is shown as over once its period is.
+//! What no clause says of a warning that is on air and isn't broadcast: that this is said, and shown by `warning W` for as long as it is on
+//! air there; and that an emergency warning is shown as over once its period is.
 
 use crate::given_plays::{Act, Play, USUAL, played};
 use crate::given_texts::Wanted;
@@ -35,6 +35,17 @@ const SIX: &[u8] =
 
 const SEVEN: &[u8] =
     b"\x0b\x00\x00\x13\x0e\x11\x12\x02\xc0\x00\x08\x00\x08\x01\x00\x64\x00\x07\x00\x07\x00\x12\x00";
+
+/// A RESET of all cells, and its answer.
+const RESET: &[u8] = b"\x10\x00\x00\x04\x04\x00\x01\x06";
+
+const RESET_COMPLETE: &[u8] = b"\x11\x00\x00\x04\x04\x00\x01\x06";
+
+/// A RESTART of all cells, without data, for warnings of Broadcast Message Type 0.
+const RESTART: &[u8] = b"\x13\x00\x00\x08\x04\x00\x01\x06\x16\x00\x0d\x01";
+
+/// A FAILURE of cell 100 7, for the same warnings.
+const FAILURE: &[u8] = b"\x14\x00\x00\x0b\x09\x00\x06\x01\x00\x64\x00\x07\x0a\x16\x00";
 
 /// A BSC with cell 100 7 in an area.
 const ONE_CELL: &str = "bsc add 1\ncell add 100 7 1\narea add Coast\narea put Coast 100\n";
@@ -130,6 +141,88 @@ const GOES_OFF: Play = Play {
     ],
     answers: Wanted::Settled("22"),
     said: Wanted::Is(""),
+    ..USUAL
+};
+
+/// A warning that is silent in its only cell goes to an area without cells while the link is down. The BSC comes back, and is reset: no
+/// KILL goes out, and the warning is silent nowhere. The order for another warning goes out once the BSC is reset.
+#[test]
+fn a_cell_is_not_silent_once_its_bsc_is_reset(rt: HostRuntime) {
+    played(&rt, rt.alloc(), &IS_RESET);
+}
+
+const IS_RESET: Play = Play {
+    words: &["--reset"],
+    acts: &[
+        Act::Lines(ONE_CELL, 4),
+        Act::Connects(1, 1),
+        Act::Gets(0, RESET),
+        Act::Sends(0, RESET_COMPLETE, 1),
+        Act::Types(ISSUE, "ok "),
+        Act::Answers(0, WRITE, WRITTEN),
+        Act::Repeats("board 1\n", "awaited 0 onair 1 "),
+        Act::Types("wish 1 1\n", "wished\n"),
+        Act::Answers(0, QUERY, FIVE),
+        Act::Repeats(
+            "board 1\n",
+            "awaited 0 onair 1 failed 0 left 0 broadcasts 5\n",
+        ),
+        Act::Rests(7_000),
+        Act::Types("wish 1 1\n", "wished\n"),
+        Act::Answers(0, QUERY, FIVE),
+        Act::Says("warning 1 is silent in 1 cells: its number of broadcasts doesn't rise there\n"),
+        Act::Leaves(0),
+        Act::Says("ended: the BSC closed the connection"),
+        Act::Lines("area add Empty\nwiden 1 Empty\nnarrow 1 Coast\n", 3),
+        Act::Types("warning 1\n", "warning 1 4370 0x1112 C000 active cbs "),
+        Act::Types("", "silent 100 7 at 1\n"),
+        Act::Lines("", 3),
+        Act::Connects(1, 1),
+        Act::Gets(1, RESET),
+        Act::Sends(1, RESET_COMPLETE, 1),
+        Act::Types("issue 4371 3 15 0 1 d4f29c0e Coast\n", "ok "),
+        Act::Answers(1, WRITE, OTHER),
+        Act::Repeats("board 2\n", "awaited 0 onair 1 "),
+        Act::Types("warning 1\n", "warning 1 4370 0x1112 C000 active cbs "),
+        Act::Types("", "dcs 15 category 0 period 1\n"),
+        Act::Lines("quit\n", 2),
+    ],
+    answers: Wanted::Any,
+    ..USUAL
+};
+
+/// A BSC says that the only cell of a warning has restarted without its messages. It is silent there no more, though the order that goes
+/// out is never answered. A FAILURE shows that the RESTART before it was taken.
+#[test]
+fn a_cell_is_not_silent_once_it_has_restarted(rt: HostRuntime) {
+    played(&rt, rt.alloc(), &RESTARTS);
+}
+
+const RESTARTS: Play = Play {
+    acts: &[
+        Act::Lines(ONE_CELL, 4),
+        Act::Connects(1, 1),
+        Act::Types(ISSUE, "ok "),
+        Act::Answers(0, WRITE, WRITTEN),
+        Act::Repeats("board 1\n", "awaited 0 onair 1 "),
+        Act::Types("wish 1 1\n", "wished\n"),
+        Act::Answers(0, QUERY, FIVE),
+        Act::Repeats(
+            "board 1\n",
+            "awaited 0 onair 1 failed 0 left 0 broadcasts 5\n",
+        ),
+        Act::Rests(7_000),
+        Act::Types("wish 1 1\n", "wished\n"),
+        Act::Answers(0, QUERY, FIVE),
+        Act::Says("warning 1 is silent in 1 cells: its number of broadcasts doesn't rise there\n"),
+        Act::Sends(0, RESTART, 1),
+        Act::Answers(0, WRITE, FAILURE),
+        Act::Repeats("board 1\n", "awaited 0 onair 0 failed 1 "),
+        Act::Types("warning 1\n", "warning 1 4370 0x1112 C000 active cbs "),
+        Act::Types("", "dcs 15 category 0 period 1\n"),
+        Act::Lines("quit\n", 2),
+    ],
+    answers: Wanted::Any,
     ..USUAL
 };
 

@@ -1,7 +1,11 @@
 //! What no clause says of the words of a server's command line.
 
-use crate::given_plays::{Act, Base, Play, USUAL, played};
+use crate::checks::same;
+use crate::given_plays::{Act, Base, Play, USUAL, played, words_of};
 use crate::given_texts::Wanted;
+use server_options::read_options;
+use std::alloc::Global;
+use std::process::Abort;
 
 /// Words whose network or ports are bad, and what is said of them.
 #[test]
@@ -104,6 +108,35 @@ cbc: BSC 1: link 6 ended: the BSC closed the connection\n",
     ),
     ..USUAL
 };
+
+/// So many consoles are opened as the words ask for, and 16 where they don't.
+#[test]
+fn a_number_of_consoles_is_taken(rt: HostRuntime) {
+    same(
+        &rt,
+        consoles_of(&rt, rt.alloc(), &THREE_CONSOLES),
+        3,
+        "three",
+    );
+    same(&rt, consoles_of(&rt, rt.alloc(), &USUAL), 16, "the usual");
+}
+
+const THREE_CONSOLES: Play = Play {
+    words: &["--consoles", "3"],
+    ..USUAL
+};
+
+/// How many consoles the words of the play ask for.
+fn consoles_of(rt: &impl Abort, alloc: Global, play: &Play) -> u32 {
+    let words = words_of(rt, alloc, play, 48_000);
+    let options = read_options(alloc, words.as_slice());
+    let consoles = match &options {
+        Ok(options) => options.consoles,
+        Err(_) => 0,
+    };
+    drop(options);
+    consoles
+}
 
 /// The journal is folded whenever it has two entries, and when that is asked for.
 #[test]
