@@ -1,10 +1,11 @@
 //! Pictures of a running server.
 
-ghost use Rattle.std.specs.Prelude.{◌≡◌, ◌-◌, ◌*◌, ◌/◌, IfSome};
+ghost use Rattle.std.specs.Prelude.{◌≡◌, ◌≤◌, ◌-◌, ◌*◌, ◌/◌, IfOk, IfSome};
 
 use crate::airs::airs_of;
 use cell_register::BscId;
 use centre_past::lists::BscRow;
+use journal_keeper::{KeptUpTo, Untold, wait_kept};
 use office::desk::Desk;
 use office::question::Question;
 use office::seen::SeenValue;
@@ -20,10 +21,17 @@ use std::fs::File;
 use std::io::{Read, Seek, SeekFrom, Write};
 use std::sync::ledger::Ledger;
 use std::sync::{Mutex, Wait};
-use std::time::Clock;
+use std::thread;
+use std::time::{Clock, Duration};
 
 /// How many octets are read of what the system says of the program.
 const MOST_TEXT: usize = 2_048;
+
+/// So often it is looked whether the entries of which a picture tells are kept.
+const MOST_LOOKS: u32 = 40;
+
+/// After how many milliseconds that is looked at again.
+const PAUSE: u64 = 10;
 
 /// What the threads of a server share, as its page knows it.
 #[derive(Drop)]
@@ -159,16 +167,59 @@ impl<'a, L: Ledger, E: Write + Drop> RunningPictures<'a, L, E> {
     }
 }
 
+impl<'a, L: Ledger, E: Write + Drop> RunningPictures<'a, L, E> {
+    /// The picture, which tells of no entry that there isn't yet.
+    fn untold<R: Wait>(
+        &self,
+        rt: &R,
+        surveyed: Surveyed,
+        moments: &Moments,
+    ) -> Result<Untold<Picture>, AllocError>
+        ensures { IfOk result (λ untold. untold.what.status.entries ≤ untold.place) }
+    {
+        let entries = surveyed.survey.status.entries;
+        let place = self.shared.office.position(rt).max(entries);
+        Ok(Untold::new(place, picture(self.shared.alloc, surveyed, moments)?))
+    }
+
+    /// Whether all entries up to the place are kept, where a file is kept.
+    fn is_kept<R: Wait>(&self, rt: &R, place: u64) -> bool {
+        match self.shared.kept_place(rt) {
+            Some(last) => place <= last,
+            None => true,
+        }
+    }
+
+    /// Waits a while until all entries up to the place are kept. The answer is whether they are.
+    fn is_kept_soon<R: Wait>(&self, rt: &R, place: u64) -> bool {
+        for _ in 0..MOST_LOOKS {
+            if self.is_kept(rt, place) {
+                return true;
+            }
+            thread::sleep(rt, Duration::from_millis(PAUSE));
+        }
+        false
+    }
+}
+
 impl<'a, L: Ledger, E: Write + Drop> Pictures for RunningPictures<'a, L, E> {
-    fn take<R: Wait + Clock>(&self, rt: &R) -> Result<Picture, AllocError> {
+    fn take<R: Wait + Clock>(&self, rt: &R) -> Result<Untold<Picture>, AllocError> {
         let mut moments = self.moments(rt)?;
         let surveyed: Surveyed = self.shared.office.survey(rt)?;
         match self.complete(rt, &mut moments, &surveyed) {
-            Ok(()) => picture(self.shared.alloc, surveyed, &moments),
+            Ok(()) => self.untold(rt, surveyed, &moments),
             Err(error) => {
                 drop(surveyed);
                 Err(error)
             }
+        }
+    }
+
+    fn kept<R: Wait>(&self, rt: &R, place: u64) -> Option<KeptUpTo> {
+        if self.is_kept_soon(rt, place) {
+            wait_kept(rt, &self.shared.kept, place)
+        } else {
+            None
         }
     }
 

@@ -32,12 +32,18 @@ pub(crate) fn second_of<R: Clock>(rt: &R) -> u64 {
     }
 }
 
+/// What is shown of another picture. At an `Err` there was no memory for it, or entries of which it tells aren't kept yet.
 fn contents<R: Wait + Clock, P: Pictures>(
     rt: &R,
     alloc: Global,
     pictures: &P,
 ) -> Result<Contents, AllocError> {
-    let picture = pictures.take(rt)?;
+    let untold = pictures.take(rt)?;
+    let Some(kept) = pictures.kept(rt, untold.place()) else {
+        drop(untold);
+        return Err(AllocError);
+    };
+    let picture = untold.tell(&kept);
     let contents = Contents::of(alloc, &picture);
     drop(picture);
     contents
@@ -68,8 +74,8 @@ impl Renewed {
         }
     }
 
-    /// Takes another picture, where the last one isn't of this half second. Where there is no memory for one, the last stays. `second` is
-    /// the second, after 1970-01-01T00:00:00Z.
+    /// Takes another picture, where the last one isn't of this half second. Where there is no memory for one, or what it tells of isn't kept
+    /// yet, the last stays. `second` is the second, after 1970-01-01T00:00:00Z.
     pub(crate) fn renew<R: Wait + Clock, P: Pictures>(
         &mut self,
         rt: &R,

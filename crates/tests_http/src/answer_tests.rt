@@ -3,6 +3,7 @@
 use crate::checks::yes;
 use crate::clients::{answer_to, has};
 use crate::given_page::{Client, served};
+use crate::given_pictures::Given;
 use std::alloc::Global;
 use std::net::{Net, SocketAddr, TcpListener, TcpStream};
 use std::process::Abort;
@@ -162,6 +163,23 @@ const STALE: &[Row] = &[
     },
 ];
 
+const UNKEPT: &[Row] = &[
+    Row {
+        request: &[b"GET / HTTP/1.1\r\nHost: h\r\n\r\n"],
+        times: &[1],
+        begin: b"HTTP/1.1 503 Service Unavailable\r\n",
+        part: b"\r\ncontent-type: text/plain; charset=utf-8\r\n",
+        end: b"\r\n\r\nno picture\n",
+    },
+    Row {
+        request: &[b"GET /metrics HTTP/1.1\r\nHost: h\r\n\r\n"],
+        times: &[1],
+        begin: b"HTTP/1.1 503 Service Unavailable\r\n",
+        part: b"\r\ncontent-type: text/plain; charset=utf-8\r\n",
+        end: b"\r\n\r\nno picture\n",
+    },
+];
+
 pub(crate) fn asks<R: Abort + Net<Stream = TcpStream, Listener = TcpListener>>(
     rt: &R,
     alloc: Global,
@@ -182,15 +200,21 @@ pub(crate) fn asks<R: Abort + Net<Stream = TcpStream, Listener = TcpListener>>(
 
 #[test]
 fn each_path_is_answered(rt: HostRuntime) {
-    let _ = served(&rt, rt.alloc(), false, Client::Asks(GOOD));
+    let _ = served(&rt, rt.alloc(), Given::Whole, Client::Asks(GOOD));
 }
 
 #[test]
 fn bad_requests_are_refused(rt: HostRuntime) {
-    let _ = served(&rt, rt.alloc(), false, Client::Asks(BAD));
+    let _ = served(&rt, rt.alloc(), Given::Whole, Client::Asks(BAD));
 }
 
 #[test]
 fn a_stale_centre_is_told(rt: HostRuntime) {
-    let _ = served(&rt, rt.alloc(), true, Client::Asks(STALE));
+    let _ = served(&rt, rt.alloc(), Given::Stale, Client::Asks(STALE));
+}
+
+/// What isn't kept yet is shown to nobody.
+#[test]
+fn a_picture_waits_until_its_entries_are_kept(rt: HostRuntime) {
+    let _ = served(&rt, rt.alloc(), Given::Unkept, Client::Asks(UNKEPT));
 }

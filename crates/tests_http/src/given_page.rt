@@ -2,7 +2,7 @@
 
 use crate::answer_tests::{Row, asks};
 use crate::checks::yes;
-use crate::given_pictures::GivenPictures;
+use crate::given_pictures::{Given, GivenPictures};
 use crate::visitor_tests::{ask_at_once, ask_often, send_more, stay};
 use server_http::{HttpPort, serve_http};
 use std::alloc::Global;
@@ -48,9 +48,9 @@ fn plays<R: Clock + Abort + Net<Stream = TcpStream, Listener = TcpListener>>(
 /// Serves the page of those pictures while the client asks. The answer is how many pictures were taken.
 pub(crate) fn served<
     R: Wait + Threads + Clock + Sync + Abort + Net<Stream = TcpStream, Listener = TcpListener>,
->(rt: &R, alloc: Global, is_stale: bool, client: Client) -> u64 {
+>(rt: &R, alloc: Global, given: Given, client: Client) -> u64 {
     let port = HttpPort::open(rt, "127.0.0.1:0").expect(rt, "a free port");
-    let pictures = GivenPictures::new(alloc, is_stale);
+    let pictures = GivenPictures::new(alloc, given);
     let (rt, port, pictures) = (rt, &port, &pictures);
     thread::scope(thread::scope_env(), rt, move |scope| {
         let is_started = scope

@@ -1,6 +1,7 @@
 //! Pictures of a centre that has nothing.
 
 use centre_past::lists::{CentreStatus, PlanCounts};
+use journal_keeper::{Kept, KeptUpTo, Untold, wait_kept};
 use server_http::Pictures;
 use status_figures::{BscList, Picture, Tallies, WarningList};
 use std::alloc::{AllocError, Global};
@@ -24,20 +25,28 @@ const STATUS: CentreStatus = CentreStatus {
     }),
 };
 
+/// How it is with a centre.
+#[derive(Clone, Copy, PartialEq, Eq)]
+pub(crate) enum Given {
+    Whole,
+    Stale,
+    /// No entry is kept in its file.
+    Unkept,
+}
+
 /// Pictures of a centre that has nothing, and how many were taken.
 #[derive(Drop)]
 pub(crate) struct GivenPictures {
     pub(crate) alloc: Global,
-    /// Whether the centre is stale.
-    pub(crate) is_stale: bool,
+    pub(crate) given: Given,
     pub(crate) count: AtomicU64,
 }
 
 impl GivenPictures {
-    pub(crate) fn new(alloc: Global, is_stale: bool) -> GivenPictures {
+    pub(crate) fn new(alloc: Global, given: Given) -> GivenPictures {
         GivenPictures {
             alloc,
-            is_stale,
+            given,
             count: AtomicU64::new(0),
         }
     }
@@ -55,14 +64,14 @@ fn second_of<R: Clock>(rt: &R) -> u64 {
 }
 
 impl Pictures for GivenPictures {
-    fn take<R: Wait + Clock>(&self, rt: &R) -> Result<Picture, AllocError> {
+    fn take<R: Wait + Clock>(&self, rt: &R) -> Result<Untold<Picture>, AllocError> {
         self.count.fetch_add(1, Ordering::SeqCst);
         let mut status = STATUS;
-        if self.is_stale {
+        if self.given == Given::Stale {
             status.is_stale = true;
             status.counts = None;
         }
-        Ok(Picture {
+        let picture = Picture {
             taken: second_of(rt),
             status,
             bscs: BscList::from_vec(Vec::new(self.alloc)),
@@ -72,7 +81,16 @@ impl Pictures for GivenPictures {
             refusals: Tallies::from_vec(Vec::new(self.alloc)),
             entries: Tallies::from_vec(Vec::new(self.alloc)),
             memory: None,
-        })
+        };
+        Ok(Untold::new(STATUS.entries, picture))
+    }
+
+    fn kept<R: Wait>(&self, rt: &R, place: u64) -> Option<KeptUpTo> {
+        if self.given == Given::Unkept {
+            return None;
+        }
+        let no_file: Option<Kept<u64>> = None;
+        wait_kept(rt, &no_file, place)
     }
 
     fn tell<R: Wait + Clock>(&self, _rt: &R, _what: &str) {}

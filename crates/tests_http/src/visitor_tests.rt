@@ -3,6 +3,7 @@
 use crate::checks::{same, yes};
 use crate::clients::{answer_to, connected, rest_of};
 use crate::given_page::{Client, served};
+use crate::given_pictures::Given;
 use std::alloc::Global;
 use std::io::Write;
 use std::net::{Net, SocketAddr, TcpListener, TcpStream};
@@ -117,7 +118,7 @@ pub(crate) fn send_more<R: Clock + Abort + Net<Stream = TcpStream, Listener = Tc
 #[test]
 fn many_requests_take_few_pictures(rt: HostRuntime) {
     let begin = rt.monotonic().expect(&rt, "a clock");
-    let count = served(&rt, rt.alloc(), false, Client::AsksOften);
+    let count = served(&rt, rt.alloc(), Given::Whole, Client::AsksOften);
     let end = rt.monotonic().expect(&rt, "a clock");
     let halves = end.saturating_sub(begin).as_millis() / 500;
     yes(
@@ -129,15 +130,15 @@ fn many_requests_take_few_pictures(rt: HostRuntime) {
 
 #[test]
 fn those_who_stay_keep_nobody_out(rt: HostRuntime) {
-    let _ = served(&rt, rt.alloc(), false, Client::Stays);
+    let _ = served(&rt, rt.alloc(), Given::Whole, Client::Stays);
 }
 
 #[test]
 fn all_that_is_asked_at_once_is_answered(rt: HostRuntime) {
-    let _ = served(&rt, rt.alloc(), false, Client::AsksAtOnce);
+    let _ = served(&rt, rt.alloc(), Given::Whole, Client::AsksAtOnce);
 }
 
 #[test]
 fn what_comes_behind_an_answer_is_read(rt: HostRuntime) {
-    let _ = served(&rt, rt.alloc(), false, Client::SendsMore);
+    let _ = served(&rt, rt.alloc(), Given::Whole, Client::SendsMore);
 }
