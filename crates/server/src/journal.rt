@@ -6,7 +6,7 @@ ghost use Rattle.server_options.specs.Folds.{fold_every};
 use crate::ports::open_desk;
 use console_text::ReplayFault;
 use journal_file::{
-    DiskFile, Heading, JournalFile, LoadFault, Loaded, OpenFault, Writing, append_all, header,
+    DiskFile, Heading, LoadFault, Loaded, OpenFault, Synced, Writing, append_all, header,
 };
 use journal_keeper::{KeepFault, Keeper};
 use journal_office::{Entering, Start};
@@ -90,7 +90,7 @@ fn unkept(fault: KeepFault) -> ServeFault {
     }
 }
 
-/// Cuts off what is torn, and writes the first line where there is none.
+/// Cuts off what is torn, and writes the first line where there is none, which isn't synced yet.
 fn mend(file: &mut DiskFile, heading: Heading, loaded: Loaded) -> Result<(), ServeFault> {
     if loaded.torn > 0 && file.cut(loaded.whole).is_err() {
         return Err(ServeFault::Journal);
@@ -100,7 +100,7 @@ fn mend(file: &mut DiskFile, heading: Heading, loaded: Loaded) -> Result<(), Ser
     }
     let is_written = append_all(file, header(heading).as_slice()).is_ok()
         && append_all(file, b"\n").is_ok();
-    if is_written && file.sync().is_ok() {
+    if is_written {
         Ok(())
     } else {
         Err(ServeFault::Journal)
@@ -166,21 +166,21 @@ fn enter_lines<L: Ledger, E: Write + Drop, R: Wait + Clock>(
     }
 }
 
-/// Enters the loss of each link that was up, which is synced.
+/// Enters the loss of each link that was up. The answer is that it is synced, and with it all that was written before.
 fn enter_losses<L: Ledger, R: Wait>(
     start: &Start<'_, L, R>,
     desk: &mut Desk<L>,
     writing: &mut Writing,
     file: &mut DiskFile,
-) -> Result<(), ServeFault> {
+) -> Result<Synced, ServeFault> {
     match start.lose_links(desk, writing) {
         Ok(()) => {}
         Err(fault) => return Err(unkept(fault)),
     }
-    if writing.keep(file).is_err() {
-        return Err(ServeFault::Journal);
+    match writing.keep(file) {
+        Ok(synced) => Ok(synced),
+        Err(_) => Err(ServeFault::Journal),
     }
-    Ok(())
 }
 
 /// Enters what stands in the file into the office, at the desk, and then the loss of each link that was up. The answer is what follows
@@ -201,7 +201,7 @@ fn enter_all<L: Ledger, E: Write + Drop, R: Wait + Clock>(
     enter_lines(&start, options, &shared.errors, desk, file)?;
     let mut writing = Writing::new(shared.alloc, shared.office.position(rt));
     match enter_losses(&start, desk, &mut writing, file) {
-        Ok(()) => Ok(writing),
+        Ok(_synced) => Ok(writing),
         Err(fault) => Err(fault),
     }
 }

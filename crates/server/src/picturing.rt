@@ -191,7 +191,7 @@ impl<'a, L: Ledger, E: Write + Drop> RunningPictures<'a, L, E> {
     }
 
     /// Waits a while until all entries up to the place are kept. The answer is whether they are.
-    fn is_kept_soon<R: Wait>(&self, rt: &R, place: u64) -> bool {
+    fn is_kept_soon<R: Wait + Clock>(&self, rt: &R, place: u64) -> bool {
         for _ in 0..MOST_LOOKS {
             if self.is_kept(rt, place) {
                 return true;
@@ -215,7 +215,7 @@ impl<'a, L: Ledger, E: Write + Drop> Pictures for RunningPictures<'a, L, E> {
         }
     }
 
-    fn kept<R: Wait>(&self, rt: &R, place: u64) -> Option<KeptUpTo> {
+    fn kept<R: Wait + Clock>(&self, rt: &R, place: u64) -> Option<KeptUpTo> {
         if self.is_kept_soon(rt, place) {
             wait_kept(rt, &self.shared.kept, place)
         } else {

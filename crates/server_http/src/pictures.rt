@@ -17,7 +17,7 @@ pub trait Pictures {
 
     /// Waits, but less than a second, until all entries up to the place are kept, where a file is kept. `None` where they aren't by
     /// then: then nobody is shown what tells of them.
-    fn kept<R: Wait>(&self, rt: &R, place: u64) -> Option<KeptUpTo>
+    fn kept<R: Wait + Clock>(&self, rt: &R, place: u64) -> Option<KeptUpTo>
         ensures { IfSome result (λ kept. Covers kept place) };
 
     /// Says something of the page on standard error.

@@ -197,6 +197,25 @@ const RESTARTS_AGAIN: Play = Play {
     ..USUAL
 };
 
+/// Reports alone have the journal folded where that is due: no line is typed behind them.
+#[test]
+fn reports_fold_the_journal(rt: HostRuntime) {
+    played(&rt, rt.alloc(), &FOLDED_BY_REPORTS);
+}
+
+const FOLDED_BY_REPORTS: Play = Play {
+    words: &["--fold", "5"],
+    acts: &[
+        Act::Lines("bsc add 1\ncell add 100 0 1\n", 2),
+        Act::Connects(1, 1),
+        Act::Says("link 3 is up"),
+        Act::Fails(0, 2),
+        Act::Says("the journal was folded, entries: 5"),
+        Act::Lines("quit\n", 0),
+    ],
+    ..USUAL
+};
+
 /// Thirty cells of BSC 1, and one of BSC 2, in an area.
 const CELLS: &str = "bsc add 1\nbsc add 2\n\
 cell add 100 0 1\ncell add 100 1 1\ncell add 100 2 1\ncell add 100 3 1\ncell add 100 4 1\n\
