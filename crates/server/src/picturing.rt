@@ -129,7 +129,7 @@ impl<'a, L: Ledger, E: Write + Drop> RunningPictures<'a, L, E> {
         memory_of(self.status.lock(rt).as_mut()?)
     }
 
-    /// What is known beside a survey, which is made next.
+    /// What is known before a survey, which is made next.
     fn moments<R: Wait + Clock>(&self, rt: &R) -> Result<Moments, AllocError> {
         let taken = second_of(rt);
         let moment = moment_of(rt);
@@ -145,7 +145,7 @@ impl<'a, L: Ledger, E: Write + Drop> RunningPictures<'a, L, E> {
             resets,
             downs: Vec::new(self.shared.alloc),
             airs: Vec::new(self.shared.alloc),
-            kept: self.shared.kept_place(rt),
+            kept: None,
             memory: self.memory(rt),
         })
     }
@@ -168,20 +168,6 @@ impl<'a, L: Ledger, E: Write + Drop> RunningPictures<'a, L, E> {
 }
 
 impl<'a, L: Ledger, E: Write + Drop> RunningPictures<'a, L, E> {
-    /// The picture, which tells of no entry that there isn't yet.
-    fn untold<R: Wait>(
-        &self,
-        rt: &R,
-        surveyed: Surveyed,
-        moments: &Moments,
-    ) -> Result<Untold<Picture>, AllocError>
-        ensures { IfOk result (λ untold. untold.what.status.entries ≤ untold.place) }
-    {
-        let entries = surveyed.survey.status.entries;
-        let place = self.shared.office.position(rt).max(entries);
-        Ok(Untold::new(place, picture(self.shared.alloc, surveyed, moments)?))
-    }
-
     /// Whether all entries up to the place are kept, where a file is kept.
     fn is_kept<R: Wait>(&self, rt: &R, place: u64) -> bool {
         match self.shared.kept_place(rt) {
@@ -190,15 +176,31 @@ impl<'a, L: Ledger, E: Write + Drop> RunningPictures<'a, L, E> {
         }
     }
 
-    /// Waits a while until all entries up to the place are kept. The answer is whether they are.
-    fn is_kept_soon<R: Wait + Clock>(&self, rt: &R, place: u64) -> bool {
+    /// Waits a while until all entries up to the place are kept. The answer is the last one that is kept then.
+    fn kept_soon<R: Wait + Clock>(&self, rt: &R, place: u64) -> Option<u64> {
         for _ in 0..MOST_LOOKS {
             if self.is_kept(rt, place) {
-                return true;
+                break;
             }
             thread::sleep(rt, Duration::from_millis(PAUSE));
         }
-        false
+        self.shared.kept_place(rt)
+    }
+
+    /// The picture, which tells of no entry that there isn't yet.
+    fn untold<R: Wait + Clock>(
+        &self,
+        rt: &R,
+        surveyed: Surveyed,
+        moments: &mut Moments,
+    ) -> Result<Untold<Picture>, AllocError>
+        ensures { IfOk result (λ untold. untold.what.status.entries ≤ untold.place) }
+    {
+        let entries = surveyed.survey.status.entries;
+        let place = self.shared.office.position(rt).max(entries);
+        moments.kept = self.kept_soon(rt, place);
+        let picture = picture(self.shared.alloc, surveyed, moments)?;
+        Ok(Untold::new(place, picture))
     }
 }
 
@@ -207,7 +209,7 @@ impl<'a, L: Ledger, E: Write + Drop> Pictures for RunningPictures<'a, L, E> {
         let mut moments = self.moments(rt)?;
         let surveyed: Surveyed = self.shared.office.survey(rt)?;
         match self.complete(rt, &mut moments, &surveyed) {
-            Ok(()) => self.untold(rt, surveyed, &moments),
+            Ok(()) => self.untold(rt, surveyed, &mut moments),
             Err(error) => {
                 drop(surveyed);
                 Err(error)
@@ -215,8 +217,8 @@ impl<'a, L: Ledger, E: Write + Drop> Pictures for RunningPictures<'a, L, E> {
         }
     }
 
-    fn kept<R: Wait + Clock>(&self, rt: &R, place: u64) -> Option<KeptUpTo> {
-        if self.is_kept_soon(rt, place) {
+    fn kept<R: Wait>(&self, rt: &R, place: u64) -> Option<KeptUpTo> {
+        if self.is_kept(rt, place) {
             wait_kept(rt, &self.shared.kept, place)
         } else {
             None

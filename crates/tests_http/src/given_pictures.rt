@@ -85,7 +85,7 @@ impl Pictures for GivenPictures {
         Ok(Untold::new(STATUS.entries, picture))
     }
 
-    fn kept<R: Wait + Clock>(&self, rt: &R, place: u64) -> Option<KeptUpTo> {
+    fn kept<R: Wait>(&self, rt: &R, place: u64) -> Option<KeptUpTo> {
         if self.given == Given::Unkept {
             return None;
         }
