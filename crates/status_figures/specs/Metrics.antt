@@ -1,6 +1,6 @@
 -- The metrics of a picture, in the text format of Prometheus: for each metric two lines that say what it is, and a line for each of
 -- its samples.
-use Rattle.std.specs.Prelude.{ℕ, Bool, true, false, List, [], ◌∷◌, ◌++◌, Option, Some, None, codes, decimal}
+use Rattle.std.specs.Prelude.{ℕ, ◌+◌, Bool, true, false, List, [], ◌∷◌, ◌++◌, Option, Some, None, codes, decimal}
 use Rattle.std.specs.List.{flat_map}
 use Rattle.centre_past.specs.declared.lists.plan_counts.PlanCounts.{PlanCounts}
 use Rattle.coverage_board.specs.declared.numbers.Numbers.{Numbers}
@@ -187,8 +187,13 @@ cells_head = head_text (codes "cbc_cells") (codes "Registered cells that an acti
 unfoldable pub cells_text : List WarningFigures → List ℕ
 cells_text warnings = cells_head ++ flat_map cells_of warnings
 
+-- in how many registered cells an active warning is planned: in each it is awaited or on air, or it failed there
+abbrev pub planned : Numbers → ℕ
+planned n = n.awaited + n.on_air + n.failed
+
 -- the name of a metric that has one sample for each warning
 abbrev pub warning_metric_name : WarningMetric → List ℕ
+warning_metric_name of_warning.Cells = codes "cbc_warning_cells"
 warning_metric_name of_warning.Active = codes "cbc_warning_active"
 warning_metric_name of_warning.Left = codes "cbc_left_places"
 warning_metric_name of_warning.Broadcasts = codes "cbc_broadcasts"
@@ -196,6 +201,7 @@ warning_metric_name of_warning.Silent = codes "cbc_silent_cells"
 
 -- what it is
 abbrev pub warning_metric_help : WarningMetric → List ℕ
+warning_metric_help of_warning.Cells = codes "Registered cells in which a warning is planned: 0 of an active one that reaches nobody."
 warning_metric_help of_warning.Active = codes "Whether a warning was not stopped."
 warning_metric_help of_warning.Left = codes "Places where an old or unwanted version of a warning is on air or may be."
 warning_metric_help of_warning.Broadcasts = codes "How often a warning was broadcast in the cells that its areas cover, as reported."
@@ -203,6 +209,7 @@ warning_metric_help of_warning.Silent = codes "Cells in which a warning is on ai
 
 -- its number
 abbrev pub warning_metric_value : WarningMetric → WarningFigures → ℕ
+warning_metric_value of_warning.Cells w = planned w.sheet.row.numbers
 warning_metric_value of_warning.Active w = flag w.sheet.row.is_active
 warning_metric_value of_warning.Left w = w.sheet.row.numbers.left
 warning_metric_value of_warning.Broadcasts w = w.sheet.row.numbers.broadcasts
@@ -221,9 +228,10 @@ warning_metric_text m warnings = head_text (warning_metric_name m) (warning_metr
 unfoldable pub warnings_text : List WarningFigures → List ℕ
 warnings_text warnings =
     cells_text warnings
+    ++ (warning_metric_text of_warning.Cells warnings
     ++ (warning_metric_text of_warning.Active warnings
     ++ (warning_metric_text of_warning.Left warnings
-    ++ (warning_metric_text of_warning.Broadcasts warnings ++ warning_metric_text of_warning.Silent warnings)))
+    ++ (warning_metric_text of_warning.Broadcasts warnings ++ warning_metric_text of_warning.Silent warnings))))
 
 -- BSCs.
 

@@ -2,7 +2,7 @@
 
 ghost use Rattle.std.specs.Prelude.{◌≡◌, ◌++◌, OnOk};
 ghost use Rattle.std.specs.List.{flat_map};
-ghost use Rattle.status_figures.specs.Metrics.{cells_head, cells_line, cells_lines, cells_of, cells_text, warning_line, warning_metric_help, warning_metric_name, warning_metric_text, warning_metric_value, warnings_text};
+ghost use Rattle.status_figures.specs.Metrics.{cells_head, cells_line, cells_lines, cells_of, cells_text, planned, warning_line, warning_metric_help, warning_metric_name, warning_metric_text, warning_metric_value, warnings_text};
 
 use crate::samples::{flag, push_head};
 use crate::warning_figures::WarningFigures;
@@ -12,10 +12,18 @@ use std::alloc::{AllocError, Global};
 /// A metric that has one sample for each warning.
 #[derive(Clone, Copy, Debug, PartialEq, Eq)]
 pub(crate) enum WarningMetric {
+    Cells,
     Active,
     Left,
     Broadcasts,
     Silent,
+}
+
+/// In how many registered cells an active warning is planned.
+fn planned(numbers: Numbers) -> u128
+    ensures { result ≡ planned numbers }
+{
+    u128::from(numbers.awaited) + u128::from(numbers.on_air) + u128::from(numbers.failed)
 }
 
 impl WarningMetric {
@@ -23,6 +31,7 @@ impl WarningMetric {
         ensures { result.now ≡ warning_metric_name self }
     {
         match self {
+            WarningMetric::Cells => "cbc_warning_cells",
             WarningMetric::Active => "cbc_warning_active",
             WarningMetric::Left => "cbc_left_places",
             WarningMetric::Broadcasts => "cbc_broadcasts",
@@ -34,6 +43,9 @@ impl WarningMetric {
         ensures { result.now ≡ warning_metric_help self }
     {
         match self {
+            WarningMetric::Cells => {
+                "Registered cells in which a warning is planned: 0 of an active one that reaches nobody."
+            }
             WarningMetric::Active => "Whether a warning was not stopped.",
             WarningMetric::Left => {
                 "Places where an old or unwanted version of a warning is on air or may be."
@@ -47,14 +59,15 @@ impl WarningMetric {
         }
     }
 
-    fn value(self, warning: &WarningFigures) -> u64
+    fn value(self, warning: &WarningFigures) -> u128
         ensures { result ≡ warning_metric_value self warning.now }
     {
         match self {
-            WarningMetric::Active => flag(warning.sheet.row.is_active),
-            WarningMetric::Left => warning.sheet.row.numbers.left,
-            WarningMetric::Broadcasts => warning.sheet.row.numbers.broadcasts,
-            WarningMetric::Silent => warning.silent,
+            WarningMetric::Cells => planned(warning.sheet.row.numbers),
+            WarningMetric::Active => u128::from(flag(warning.sheet.row.is_active)),
+            WarningMetric::Left => u128::from(warning.sheet.row.numbers.left),
+            WarningMetric::Broadcasts => u128::from(warning.sheet.row.numbers.broadcasts),
+            WarningMetric::Silent => u128::from(warning.silent),
         }
     }
 }
@@ -181,6 +194,7 @@ pub(crate) fn push_warnings(
     ensures { OnOk result (out.new.items ≡ out.old.items ++ warnings_text warnings.now) }
 {
     push_cells(alloc, out, warnings)?;
+    push_metric(alloc, out, WarningMetric::Cells, warnings)?;
     push_metric(alloc, out, WarningMetric::Active, warnings)?;
     push_metric(alloc, out, WarningMetric::Left, warnings)?;
     push_metric(alloc, out, WarningMetric::Broadcasts, warnings)?;

@@ -11,7 +11,7 @@ use Rattle.status_pages.specs.Fixed.{after_html, before_html, layout_html, looks
 use Rattle.status_pages.specs.Standings.{are_moving, bsc_stands, warning_stands}
 use Rattle.status_pages.specs.WarningParts.{warnings_html}
 use Rattle.status_pages.specs.declared.standing.Standing.{Standing}
-use Rattle.status_pages.specs.declared.standing.Standing.TheVariants.{Silent, UnderWay, Wrong}
+use Rattle.status_pages.specs.declared.standing.Standing.TheVariants.{Unreached, Silent, UnderWay, Wrong}
 use Rattle.status_pages.specs.declared.verdict.Verdict.{Verdict}
 use Rattle.status_pages.specs.declared.verdict.Verdict.TheVariants as verdict
 use Rattle.status_pages.specs.Pieces.{piece_html}
@@ -35,7 +35,7 @@ counted false false false = verdict.AllInOrder
 
 -- somebody has to look at some warning or at some BSC
 abbrev pub has_wrong : Picture → Bool
-has_wrong p = has_some p Silent || has_some p Wrong
+has_wrong p = has_some p Unreached || has_some p Silent || has_some p Wrong
 
 -- no BSC is registered in the picture
 abbrev pub has_no_bsc : Picture → Bool

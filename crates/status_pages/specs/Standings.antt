@@ -7,15 +7,19 @@ use Rattle.coverage_board.specs.declared.numbers.Numbers.{Numbers}
 use Rattle.status_figures.specs.declared.bsc_figures.BscFigures.{BscFigures}
 use Rattle.status_figures.specs.declared.warning_figures.WarningFigures.{WarningFigures}
 use Rattle.status_pages.specs.declared.standing.Standing.{Standing}
-use Rattle.status_pages.specs.declared.standing.Standing.TheVariants.{Silent, Wrong, UnderWay, InOrder, Stopped}
+use Rattle.status_pages.specs.declared.standing.Standing.TheVariants.{Unreached, Silent, Wrong, UnderWay, InOrder, Stopped}
 
 -- the warning is wanted in no registered cell
 abbrev pub is_nowhere : Numbers → Bool
 is_nowhere n = n.awaited == 0 && (n.on_air == 0 && n.failed == 0)
 
--- a warning that failed in some cell, or is active and wanted in none, has somebody look at it
+-- an active warning that is wanted in no registered cell reaches nobody; a stopped one reaches nobody on purpose
+abbrev pub is_unreached : WarningRow → Bool
+is_unreached w = w.is_active && is_nowhere w.numbers
+
+-- a warning that failed in some cell has somebody look at it
 abbrev pub is_wrong : WarningRow → Bool
-is_wrong w = not (w.numbers.failed == 0) || (w.is_active && is_nowhere w.numbers)
+is_wrong w = not (w.numbers.failed == 0)
 
 -- one that is still to go on air or off it somewhere is under way
 abbrev pub is_under_way : WarningRow → Bool
@@ -33,9 +37,11 @@ row_standing moving w =
     else (if is_under_way w then UnderWay
     else (if w.is_active then InOrder else Stopped))
 
--- how a warning stands: one that is silent in some cell has somebody look at it first
+-- how a warning stands: one that reaches nobody has somebody look at it first, then one that is silent in some cell
 unfoldable pub warning_standing : Bool → WarningFigures → Standing
-warning_standing moving w = if w.silent == 0 then row_standing moving w.sheet.row else Silent
+warning_standing moving w =
+    if is_unreached w.sheet.row then Unreached
+    else (if w.silent == 0 then row_standing moving w.sheet.row else Silent)
 
 -- for how many seconds an order may be out before somebody has to look
 abbrev pub long_out : ℕ
@@ -75,6 +81,7 @@ bsc_standing taken b =
 
 -- the two are the same
 abbrev pub is_same : Standing → Standing → Bool
+is_same Unreached Unreached = true
 is_same Silent Silent = true
 is_same Wrong Wrong = true
 is_same UnderWay UnderWay = true

@@ -1,5 +1,5 @@
 -- A warning on the page.
-use Rattle.std.specs.Prelude.{ℕ, Bool, ◌==◌, ◌&&◌, ◌/◌, List, [], ◌∷◌, ◌++◌, Option, Some, None, codes, count_by, decimal, if◌then◌else◌}
+use Rattle.std.specs.Prelude.{ℕ, Bool, ◌==◌, ◌/◌, List, [], ◌∷◌, ◌++◌, Option, Some, None, codes, count_by, decimal, if◌then◌else◌}
 use Rattle.std.specs.List.{flat_map}
 use Rattle.std.specs.Option.{option_map}
 use Rattle.std.specs.Str.{encode_utf8_all}
@@ -10,9 +10,9 @@ use Rattle.status_figures.specs.Words.{four_digits, kind_name, state_name}
 use Rattle.status_figures.specs.declared.warning_figures.WarningFigures.{WarningFigures}
 use Rattle.status_pages.specs.Boards.{areas_html, board_html}
 use Rattle.status_pages.specs.Escapes.{escaped}
-use Rattle.status_pages.specs.Standings.{is_nowhere, is_stuck, warning_standing, warning_stands}
+use Rattle.status_pages.specs.Standings.{is_stuck, is_unreached, warning_standing, warning_stands}
 use Rattle.status_pages.specs.declared.standing.Standing.{Standing}
-use Rattle.status_pages.specs.declared.standing.Standing.TheVariants.{Silent, Wrong, UnderWay, InOrder, Stopped}
+use Rattle.status_pages.specs.declared.standing.Standing.TheVariants.{Unreached, Silent, Wrong, UnderWay, InOrder, Stopped}
 use Rattle.warning_book.specs.declared.cbs_content.CbsContent.{CbsContent}
 use Rattle.warning_book.specs.declared.content.Content.{Content}
 use Rattle.warning_book.specs.declared.content.Content.TheVariants.{Cbs, Emergency}
@@ -23,6 +23,7 @@ use Rattle.status_pages.specs.declared.piece.Piece.TheVariants as piece
 
 -- the class of what stands so
 abbrev pub standing_class : Standing → List ℕ
+standing_class Unreached = codes "bad"
 standing_class Silent = codes "bad"
 standing_class Wrong = codes "bad"
 standing_class UnderWay = codes "busy"
@@ -31,6 +32,7 @@ standing_class Stopped = codes "off"
 
 -- what a list of warnings that stand so is called
 abbrev pub warnings_title : Standing → List ℕ
+warnings_title Unreached = codes "Warnings that reach no cell"
 warnings_title Silent = codes "Silent warnings"
 warnings_title Wrong = codes "Warnings to look at"
 warnings_title UnderWay = codes "Warnings under way"
@@ -111,9 +113,9 @@ front_with number class = codes "<article id=\"w" ++ (decimal number ++ (codes "
 unfoldable pub warning_front : Bool → WarningFigures → List ℕ
 warning_front moving w = front_with w.sheet.row.number (standing_class (warning_standing moving w))
 
--- it is said of an active warning that it is wanted in no registered cell
-unfoldable pub nowhere_html : WarningRow → List ℕ
-nowhere_html w = if w.is_active && is_nowhere w.numbers then codes "<p class=\"none\">Its areas cover no registered cell.</p>" else []
+-- it is said of an active warning that reaches nobody that it does, and what there is to do
+unfoldable pub unreached_html : WarningRow → List ℕ
+unreached_html w = if is_unreached w then piece_html piece.Unreached else []
 
 -- it is said of a stuck warning that it is, and what there is to do
 unfoldable pub stuck_html : Bool → WarningRow → List ℕ
@@ -139,7 +141,7 @@ over_if (Some since) = over_html since
 -- what is said of a warning
 unfoldable pub notes_html : Bool → WarningFigures → List ℕ
 notes_html moving w =
-    silent_if w.silent ++ (over_if w.over ++ (nowhere_html w.sheet.row ++ stuck_html moving w.sheet.row))
+    silent_if w.silent ++ (over_if w.over ++ (unreached_html w.sheet.row ++ stuck_html moving w.sheet.row))
 
 -- what stands above its content
 unfoldable pub warning_head : Bool → WarningFigures → List ℕ
@@ -184,9 +186,11 @@ section_if section count = if count == 0 then [] else section count
 unfoldable pub warnings_section : Bool → List WarningFigures → Standing → List ℕ
 warnings_section moving warnings s = section_if (some_warnings moving warnings s) (count_by (warning_stands moving s) warnings)
 
--- those at which somebody has to look, the silent ones first
+-- those at which somebody has to look, first those that reach nobody, then the silent ones
 unfoldable pub urgent_sections : Bool → List WarningFigures → List ℕ
-urgent_sections moving warnings = warnings_section moving warnings Silent ++ warnings_section moving warnings Wrong
+urgent_sections moving warnings =
+    warnings_section moving warnings Unreached
+    ++ (warnings_section moving warnings Silent ++ warnings_section moving warnings Wrong)
 
 -- all warnings, the most urgent first
 unfoldable pub warnings_html : Bool → List WarningFigures → List ℕ

@@ -16,6 +16,7 @@ fn title(standing: Standing) -> &'static str
     ensures { result.now ≡ bscs_title standing }
 {
     match standing {
+        Standing::Unreached => "BSCs that reach no cell",
         Standing::Silent => "Silent BSCs",
         Standing::Wrong => "BSCs to look at",
         Standing::UnderWay => "BSCs under way",

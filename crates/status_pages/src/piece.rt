@@ -14,6 +14,8 @@ pub(crate) enum Piece {
     AreaMiddle,
     AreasFront,
     OctetsFront,
+    /// A warning reaches nobody, and what there is to do.
+    Unreached,
     /// A warning is stuck, and what there is to do.
     Stuck,
     /// A warning is silent in some cells, of which the number stands between the two.
@@ -52,6 +54,9 @@ impl Piece {
             Piece::AreasFront => "<ul class=\"areas\">",
             Piece::OctetsFront =>
                 "<p class=\"octets\">The text cannot be read. Octets of its pages: ",
+            Piece::Unreached => {
+                "<p class=\"none\">REACHES NO CELL. Its areas cover no registered cell, so nobody gets it. Look at the areas: area put and widen bring it on air.</p>"
+            }
             Piece::Stuck => {
                 "<p class=\"none\">Cells are awaited or left, but no BSC is under way. If a BSC refused an order, type retry B. Else a cell or a link is down, or a BSC does not answer.</p>"
             }

@@ -1,7 +1,7 @@
 //! How warnings and BSCs stand.
 
 ghost use Rattle.std.specs.Prelude.{◌≡◌, count_by};
-ghost use Rattle.status_pages.specs.Standings.{are_moving, bsc_standing, bsc_stands, are_all_down, has_all_down, is_busy, is_late, is_long_out, is_nowhere, is_same, is_stuck, is_under_way, is_wrong, needs_look, row_standing, warning_standing, warning_stands};
+ghost use Rattle.status_pages.specs.Standings.{are_moving, bsc_standing, bsc_stands, are_all_down, has_all_down, is_busy, is_late, is_long_out, is_nowhere, is_same, is_stuck, is_under_way, is_unreached, is_wrong, needs_look, row_standing, warning_standing, warning_stands};
 
 use crate::standing::Standing;
 use centre_past::lists::WarningRow;
@@ -12,16 +12,23 @@ use status_figures::{BscFigures, WarningFigures};
 const LONG_OUT: u64 = 30;
 
 /// Whether the warning is wanted in no registered cell.
-pub(crate) fn is_nowhere(numbers: Numbers) -> bool
+fn is_nowhere(numbers: Numbers) -> bool
     ensures { result ≡ is_nowhere numbers }
 {
     numbers.awaited == 0 && (numbers.on_air == 0 && numbers.failed == 0)
 }
 
+/// Whether the warning is active and reaches nobody.
+pub(crate) fn is_unreached(warning: &WarningRow) -> bool
+    ensures { result ≡ is_unreached warning.now }
+{
+    warning.is_active && is_nowhere(warning.numbers)
+}
+
 fn is_wrong(warning: &WarningRow) -> bool
     ensures { result ≡ is_wrong warning.now }
 {
-    warning.numbers.failed != 0 || (warning.is_active && is_nowhere(warning.numbers))
+    warning.numbers.failed != 0
 }
 
 fn is_under_way(warning: &WarningRow) -> bool
@@ -53,12 +60,14 @@ fn row_standing(moving: bool, warning: &WarningRow) -> Standing
     }
 }
 
-/// How a warning stands. One that is silent in some cell has somebody look at it first.
+/// How a warning stands. One that reaches nobody has somebody look at it first, then one that is silent in some cell.
 #[tactic(auto, unfolding(crate::specs::Standings::warning_standing))]
 pub(crate) fn warning_standing(moving: bool, warning: &WarningFigures) -> Standing
     ensures { result ≡ warning_standing moving warning.now }
 {
-    if warning.silent == 0 {
+    if is_unreached(&warning.sheet.row) {
+        Standing::Unreached
+    } else if warning.silent == 0 {
         row_standing(moving, &warning.sheet.row)
     } else {
         Standing::Silent
@@ -131,7 +140,8 @@ fn is_same(found: Standing, wanted: Standing) -> bool
     ensures { result ≡ is_same found wanted }
 {
     match (found, wanted) {
-        (Standing::Silent, Standing::Silent)
+        (Standing::Unreached, Standing::Unreached)
+        | (Standing::Silent, Standing::Silent)
         | (Standing::Wrong, Standing::Wrong)
         | (Standing::UnderWay, Standing::UnderWay)
         | (Standing::InOrder, Standing::InOrder)

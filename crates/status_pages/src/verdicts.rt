@@ -32,7 +32,9 @@ fn has_some(picture: &Picture, standing: Standing) -> bool
 fn has_wrong(picture: &Picture) -> bool
     ensures { result ≡ has_wrong picture.now }
 {
-    has_some(picture, Standing::Silent) || has_some(picture, Standing::Wrong)
+    has_some(picture, Standing::Unreached)
+        || has_some(picture, Standing::Silent)
+        || has_some(picture, Standing::Wrong)
 }
 
 fn has_no_bsc(picture: &Picture) -> bool

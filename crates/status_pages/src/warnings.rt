@@ -2,13 +2,13 @@
 
 ghost use Rattle.std.specs.Prelude.{◌≡◌, ◌++◌, IfOk, OnOk, string_bytes};
 ghost use Rattle.std.specs.List.{flat_map};
-ghost use Rattle.status_pages.specs.WarningParts.{front_with, message_html, name_html, notes_html, nowhere_html, number_html, over_html, over_if, section_class, section_front, section_title, serial_html, silent_html, silent_if, some_warnings, standing_class, stuck_html, urgent_sections, version_html, version_with, warning_boards, warning_front, warning_head, warning_html, warning_if, warnings_html, warnings_section, warnings_title};
+ghost use Rattle.status_pages.specs.WarningParts.{front_with, message_html, name_html, notes_html, number_html, over_html, over_if, section_class, section_front, section_title, serial_html, silent_html, silent_if, some_warnings, standing_class, stuck_html, unreached_html, urgent_sections, version_html, version_with, warning_boards, warning_front, warning_head, warning_html, warning_if, warnings_html, warnings_section, warnings_title};
 
 use crate::boards::{push_areas, push_board};
 use crate::contents::push_content;
 use crate::piece::{Piece, push_piece};
 use crate::standing::Standing;
-use crate::standings::{count_warnings, is_nowhere, is_stuck, warning_standing, warning_stands};
+use crate::standings::{count_warnings, is_stuck, is_unreached, warning_standing, warning_stands};
 use crate::times::push_time;
 use centre_past::lists::WarningRow;
 use serials::Serial;
@@ -19,7 +19,7 @@ pub(crate) fn standing_class(standing: Standing) -> &'static str
     ensures { result.now ≡ standing_class standing }
 {
     match standing {
-        Standing::Silent | Standing::Wrong => "bad",
+        Standing::Unreached | Standing::Silent | Standing::Wrong => "bad",
         Standing::UnderWay => "busy",
         Standing::InOrder => "good",
         Standing::Stopped => "off",
@@ -30,6 +30,7 @@ fn title(standing: Standing) -> &'static str
     ensures { result.now ≡ warnings_title standing }
 {
     match standing {
+        Standing::Unreached => "Warnings that reach no cell",
         Standing::Silent => "Silent warnings",
         Standing::Wrong => "Warnings to look at",
         Standing::UnderWay => "Warnings under way",
@@ -128,13 +129,13 @@ fn push_front(
     push_front_with(alloc, out, warning.sheet.row.number.number(), class)
 }
 
-/// Says of an active warning that it is wanted in no registered cell.
-#[tactic(auto, unfolding(crate::specs::WarningParts::nowhere_html))]
-fn push_nowhere(out: &mut Vec<u8>, row: &WarningRow) -> Result<(), AllocError>
-    ensures { OnOk result (out.new.items ≡ out.old.items ++ nowhere_html row.now) }
+/// Says of an active warning that reaches nobody that it does, and what there is to do.
+#[tactic(auto, unfolding(crate::specs::WarningParts::unreached_html))]
+fn push_unreached(out: &mut Vec<u8>, row: &WarningRow) -> Result<(), AllocError>
+    ensures { OnOk result (out.new.items ≡ out.old.items ++ unreached_html row.now) }
 {
-    if row.is_active && is_nowhere(row.numbers) {
-        out.extend_from_slice(b"<p class=\"none\">Its areas cover no registered cell.</p>")
+    if is_unreached(row) {
+        push_piece(out, Piece::Unreached)
     } else {
         Ok(())
     }
@@ -203,7 +204,7 @@ fn push_notes(
 {
     push_silent_if(alloc, out, warning.silent)?;
     push_over_if(out, warning.over)?;
-    push_nowhere(out, &warning.sheet.row)?;
+    push_unreached(out, &warning.sheet.row)?;
     push_stuck(out, moving, &warning.sheet.row)
 }
 
@@ -357,7 +358,7 @@ fn push_section(
     }
 }
 
-/// Appends those at which somebody has to look, the silent ones first.
+/// Appends those at which somebody has to look, first those that reach nobody, then the silent ones.
 #[tactic(auto, unfolding(crate::specs::WarningParts::urgent_sections))]
 fn push_urgent(
     alloc: Global,
@@ -367,6 +368,7 @@ fn push_urgent(
 ) -> Result<(), AllocError>
     ensures { OnOk result (out.new.items ≡ out.old.items ++ urgent_sections moving warnings.now) }
 {
+    push_section(alloc, out, moving, warnings, Standing::Unreached)?;
     push_section(alloc, out, moving, warnings, Standing::Silent)?;
     push_section(alloc, out, moving, warnings, Standing::Wrong)
 }

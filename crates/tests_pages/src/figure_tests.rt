@@ -67,6 +67,10 @@ cbc_cells{warning="3",state="failed"} 2
 cbc_cells{warning="8",state="awaited"} 0
 cbc_cells{warning="8",state="on_air"} 0
 cbc_cells{warning="8",state="failed"} 0
+# HELP cbc_warning_cells Registered cells in which a warning is planned: 0 of an active one that reaches nobody.
+# TYPE cbc_warning_cells gauge
+cbc_warning_cells{warning="3"} 18
+cbc_warning_cells{warning="8"} 0
 # HELP cbc_warning_active Whether a warning was not stopped.
 # TYPE cbc_warning_active gauge
 cbc_warning_active{warning="3"} 1

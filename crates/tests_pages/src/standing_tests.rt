@@ -60,6 +60,13 @@ const RESET_HANGS: Wanted = Wanted {
     stuck: false,
 };
 
+/// An active warning that reaches nobody.
+const UNREACHED: Wanted = Wanted {
+    word: b"<header class=\"bad\"><h1>ATTENTION</h1>",
+    title: b"<div class=\"col warnings\"><section class=\"bad\"><h2>Warnings that reach no cell <b>1</b></h2><div><article id=\"w9\" class=\"w bad\">",
+    stuck: false,
+};
+
 const FAILED: Wanted = Wanted {
     word: b"<header class=\"bad\"><h1>ATTENTION</h1>",
     title: b"<section class=\"bad\"><h2>Warnings to look at <b>1</b></h2>",
@@ -145,6 +152,49 @@ fn an_active_warning_stands_by_its_numbers(rt: HostRuntime) {
     let old = numbers(0, 6, 1, 1);
     says(&rt, alloc, serial, old, &busy, FAILED, "failed");
     says(&rt, alloc, serial, old, &idle, IS_STUCK, "failed, left");
+}
+
+/// What a page says of a warning that reaches nobody.
+const REACHES_NONE: &[u8] =
+    b"<p class=\"none\">REACHES NO CELL. Its areas cover no registered cell, so nobody gets it. Look at the areas: area put and widen bring it on air.</p>";
+
+/// An active warning whose areas cover no registered cell stands first; a stopped one is in no cell on purpose.
+#[test]
+fn a_warning_that_reaches_nobody_is_shown_first(rt: HostRuntime) {
+    let alloc = rt.alloc();
+    let none = numbers(0, 0, 0, 0);
+    let left = numbers(0, 0, 0, 1);
+    let bscs = [up(&rt, None, 0)];
+    let serial = Some(0x4031);
+    says(&rt, alloc, serial, none, &bscs, UNREACHED, "in no cell");
+    says(&rt, alloc, None, none, &bscs, QUIET, "stopped");
+    let rows = [
+        (serial, none, true, 0u8),
+        (serial, left, true, 0),
+        (serial, numbers(1, 0, 0, 0), false, 1),
+        (serial, numbers(0, 1, 0, 0), false, 1),
+        (serial, numbers(0, 0, 1, 0), false, 1),
+        (None, none, false, 0),
+    ];
+    for (serial, numbers, is_said, cells) in rows {
+        let picture = picture_of_one(&rt, alloc, serial, numbers, &bscs);
+        let found = page(alloc, &picture).expect(&rt, "memory");
+        yes(
+            &rt,
+            has(found.as_slice(), REACHES_NONE) == is_said,
+            "the note",
+        );
+        let found = metrics(alloc, &picture).expect(&rt, "memory");
+        let line = [
+            b"\ncbc_warning_cells{warning=\"9\"} 0\n",
+            b"\ncbc_warning_cells{warning=\"9\"} 1\n",
+        ];
+        yes(
+            &rt,
+            has(found.as_slice(), line[usize::from(cells)]),
+            "the metric",
+        );
+    }
 }
 
 /// A BSC over whose link a RESET has been out for so long.
