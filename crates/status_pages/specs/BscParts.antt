@@ -7,12 +7,13 @@ use Rattle.status_figures.specs.declared.bsc_figures.BscFigures.{BscFigures}
 use Rattle.status_pages.specs.Standings.{bsc_standing, bsc_stands}
 use Rattle.status_pages.specs.WarningParts.{section_front, section_if, standing_class}
 use Rattle.status_pages.specs.declared.standing.Standing.{Standing}
-use Rattle.status_pages.specs.declared.standing.Standing.TheVariants.{Unreached, Silent, Wrong, UnderWay, InOrder, Stopped}
+use Rattle.status_pages.specs.declared.standing.Standing.TheVariants.{Pressing, Unreached, Silent, Wrong, UnderWay, InOrder, Stopped}
 use Rattle.status_pages.specs.Pieces.{piece_html}
 use Rattle.status_pages.specs.declared.piece.Piece.TheVariants as piece
 
 -- what a list of BSCs that stand so is called
 abbrev pub bscs_title : Standing → List ℕ
+bscs_title Pressing = codes "BSCs that press"
 bscs_title Unreached = codes "BSCs that reach no cell"
 bscs_title Silent = codes "Silent BSCs"
 bscs_title Wrong = codes "BSCs to look at"

@@ -1,10 +1,13 @@
 pub mod Boards
 pub mod BscParts
+pub mod Causes
 pub mod Escapes
 pub mod Fixed
+pub mod Kinds
 pub mod Laws
 pub mod Pages
 pub mod Pieces
+pub mod Ranks
 pub mod Standings
 pub mod Times
 pub mod WarningParts

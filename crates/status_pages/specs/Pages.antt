@@ -6,12 +6,15 @@ use Rattle.status_figures.specs.Health.{health_of}
 use Rattle.status_figures.specs.declared.health.Health.{Health}
 use Rattle.status_figures.specs.declared.health.Health.TheVariants as health
 use Rattle.status_figures.specs.declared.picture.Picture.{Picture}
+use Rattle.status_figures.specs.declared.warning_figures.WarningFigures.{WarningFigures}
 use Rattle.status_pages.specs.BscParts.{bscs_html}
+use Rattle.status_pages.specs.Causes.{causes_html}
 use Rattle.status_pages.specs.Fixed.{after_html, before_html, layout_html, looks_html}
-use Rattle.status_pages.specs.Standings.{are_moving, bsc_stands, warning_stands}
+use Rattle.status_pages.specs.Ranks.{ranked}
+use Rattle.status_pages.specs.Standings.{bsc_stands, needs_look, warning_is_urgent, warning_stands}
 use Rattle.status_pages.specs.WarningParts.{warnings_html}
 use Rattle.status_pages.specs.declared.standing.Standing.{Standing}
-use Rattle.status_pages.specs.declared.standing.Standing.TheVariants.{Unreached, Silent, UnderWay, Wrong}
+use Rattle.status_pages.specs.declared.standing.Standing.TheVariants.{UnderWay}
 use Rattle.status_pages.specs.declared.verdict.Verdict.{Verdict}
 use Rattle.status_pages.specs.declared.verdict.Verdict.TheVariants as verdict
 use Rattle.status_pages.specs.Pieces.{piece_html}
@@ -24,7 +27,7 @@ use Rattle.status_pages.specs.declared.piece.Piece.TheVariants as piece
 
 -- some warning or some BSC stands so
 abbrev pub has_some : Picture → Standing → Bool
-has_some p s = not (count_by (warning_stands (are_moving p.taken p.bscs) s) p.warnings == 0) || not (count_by (bsc_stands p.taken s) p.bscs == 0)
+has_some p s = not (count_by (warning_stands p s) p.warnings == 0) || not (count_by (bsc_stands p.taken s) p.bscs == 0)
 
 -- how a centre that is whole stands: whether somebody has to look, whether no BSC is registered, and whether something is still to come
 abbrev pub counted : Bool → Bool → Bool → Verdict
@@ -35,7 +38,7 @@ counted false false false = verdict.AllInOrder
 
 -- somebody has to look at some warning or at some BSC
 abbrev pub has_wrong : Picture → Bool
-has_wrong p = has_some p Unreached || has_some p Silent || has_some p Wrong
+has_wrong p = not (count_by (warning_is_urgent p) p.warnings == 0) || not (count_by (needs_look p.taken) p.bscs == 0)
 
 -- no BSC is registered in the picture
 abbrev pub has_no_bsc : Picture → Bool
@@ -74,10 +77,10 @@ verdict_word verdict.AllInOrder = codes "ALL IN ORDER"
 abbrev pub verdict_text : Verdict → List ℕ
 verdict_text verdict.IsStale = codes "The centre is stale. It does not know what is on air. Type rebuild at a console."
 verdict_text verdict.IsFull = codes "The journal is full. No event is taken. Type checkpoint at a console."
-verdict_text verdict.SomeWrong = codes "Somebody has to look at what stands first below."
+verdict_text verdict.SomeWrong = codes "Somebody has to look:"
 verdict_text verdict.IsEmpty = codes "No BSC is registered. The centre knows nothing of what is on air."
-verdict_text verdict.SomeUnderWay = codes "Every link is up, and no warning failed in any cell. If this stays, look at what is awaited or left."
-verdict_text verdict.AllInOrder = codes "Every link is up, no warning failed in any cell, and no order is to come."
+verdict_text verdict.SomeUnderWay = codes "No link and no cell is down, and no warning failed in any cell. If this stays, look at what is awaited or left."
+verdict_text verdict.AllInOrder = codes "Every link is up, no cell is down, no warning failed in any cell, and no order is to come."
 
 -- the state of the centre
 unfoldable pub verdict_html : Verdict → List ℕ
@@ -159,19 +162,25 @@ figures_html p =
     piece_html piece.SumsFront
     ++ (counts_html p.status.counts ++ (flat_map (centre_html p) centre_items ++ piece_html piece.SumsEnd))
 
--- the warnings and the BSCs
-unfoldable pub lists_html : Picture → List ℕ
-lists_html p =
+-- the warnings, in that order, and the BSCs
+unfoldable pub lists_html : Picture → List WarningFigures → List ℕ
+lists_html p warnings =
     piece_html piece.ColumnsFront
-    ++ (warnings_html (are_moving p.taken p.bscs) p.warnings ++ (bscs_html p.taken p.bscs ++ piece_html piece.ColumnsEnd))
+    ++ (warnings_html p warnings ++ (bscs_html p.taken p.bscs ++ piece_html piece.ColumnsEnd))
 
 -- where begins what is exchanged when the page is renewed
 unfoldable pub taken_html : ℕ → List ℕ
 taken_html taken = codes "<main id=\"now\" data-taken=\"" ++ (decimal taken ++ codes "\">")
 
+-- how the centre stands, and why
+unfoldable pub state_html : Picture → Verdict → List WarningFigures → List ℕ
+state_html p v warnings = taken_html p.taken ++ (verdict_html v ++ causes_html p warnings)
+
 -- what is exchanged
 unfoldable pub main_html : Picture → Verdict → List ℕ
-main_html p v = taken_html p.taken ++ (verdict_html v ++ (moment_html p.taken ++ (figures_html p ++ lists_html p)))
+main_html p v =
+    state_html p v (ranked p.warnings)
+    ++ (moment_html p.taken ++ (figures_html p ++ lists_html p (ranked p.warnings)))
 
 -- what stands in front of it: the title and the looks
 unfoldable pub front_html : Verdict → List ℕ

@@ -1,5 +1,5 @@
 -- A warning on the page.
-use Rattle.std.specs.Prelude.{ℕ, Bool, ◌==◌, ◌/◌, List, [], ◌∷◌, ◌++◌, Option, Some, None, codes, count_by, decimal, if◌then◌else◌}
+use Rattle.std.specs.Prelude.{ℕ, ◌==◌, ◌/◌, List, [], ◌∷◌, ◌++◌, Option, Some, None, codes, count_by, decimal, if◌then◌else◌}
 use Rattle.std.specs.List.{flat_map}
 use Rattle.std.specs.Option.{option_map}
 use Rattle.std.specs.Str.{encode_utf8_all}
@@ -7,12 +7,13 @@ use Rattle.hex.specs.Hex.{encode_lower}
 use Rattle.centre_past.specs.declared.lists.warning_row.WarningRow.{WarningRow}
 use Rattle.message_text.specs.Reading.{read_text}
 use Rattle.status_figures.specs.Words.{four_digits, kind_name, state_name}
+use Rattle.status_figures.specs.declared.picture.Picture.{Picture}
 use Rattle.status_figures.specs.declared.warning_figures.WarningFigures.{WarningFigures}
 use Rattle.status_pages.specs.Boards.{areas_html, board_html}
 use Rattle.status_pages.specs.Escapes.{escaped}
 use Rattle.status_pages.specs.Standings.{is_stuck, is_unreached, warning_standing, warning_stands}
 use Rattle.status_pages.specs.declared.standing.Standing.{Standing}
-use Rattle.status_pages.specs.declared.standing.Standing.TheVariants.{Unreached, Silent, Wrong, UnderWay, InOrder, Stopped}
+use Rattle.status_pages.specs.declared.standing.Standing.TheVariants.{Pressing, Unreached, Silent, Wrong, UnderWay, InOrder, Stopped}
 use Rattle.warning_book.specs.declared.cbs_content.CbsContent.{CbsContent}
 use Rattle.warning_book.specs.declared.content.Content.{Content}
 use Rattle.warning_book.specs.declared.content.Content.TheVariants.{Cbs, Emergency}
@@ -23,6 +24,7 @@ use Rattle.status_pages.specs.declared.piece.Piece.TheVariants as piece
 
 -- the class of what stands so
 abbrev pub standing_class : Standing → List ℕ
+standing_class Pressing = codes "bad"
 standing_class Unreached = codes "bad"
 standing_class Silent = codes "bad"
 standing_class Wrong = codes "bad"
@@ -32,6 +34,7 @@ standing_class Stopped = codes "off"
 
 -- what a list of warnings that stand so is called
 abbrev pub warnings_title : Standing → List ℕ
+warnings_title Pressing = codes "Emergency warnings to look at"
 warnings_title Unreached = codes "Warnings that reach no cell"
 warnings_title Silent = codes "Silent warnings"
 warnings_title Wrong = codes "Warnings to look at"
@@ -110,16 +113,16 @@ unfoldable pub front_with : ℕ → List ℕ → List ℕ
 front_with number class = codes "<article id=\"w" ++ (decimal number ++ (codes "\" class=\"w " ++ (class ++ codes "\">")))
 
 -- where a warning begins
-unfoldable pub warning_front : Bool → WarningFigures → List ℕ
-warning_front moving w = front_with w.sheet.row.number (standing_class (warning_standing moving w))
+unfoldable pub warning_front : Picture → WarningFigures → List ℕ
+warning_front p w = front_with w.sheet.row.number (standing_class (warning_standing p w))
 
 -- it is said of an active warning that reaches nobody that it does, and what there is to do
 unfoldable pub unreached_html : WarningRow → List ℕ
 unreached_html w = if is_unreached w then piece_html piece.Unreached else []
 
 -- it is said of a stuck warning that it is, and what there is to do
-unfoldable pub stuck_html : Bool → WarningRow → List ℕ
-stuck_html moving w = if is_stuck moving w then piece_html piece.Stuck else []
+unfoldable pub stuck_html : Picture → WarningRow → List ℕ
+stuck_html p w = if is_stuck p w then piece_html piece.Stuck else []
 
 -- in how many cells the warning is silent
 unfoldable pub silent_html : ℕ → List ℕ
@@ -139,22 +142,22 @@ over_if None = []
 over_if (Some since) = over_html since
 
 -- what is said of a warning
-unfoldable pub notes_html : Bool → WarningFigures → List ℕ
-notes_html moving w =
-    silent_if w.silent ++ (over_if w.over ++ (unreached_html w.sheet.row ++ stuck_html moving w.sheet.row))
+unfoldable pub notes_html : Picture → WarningFigures → List ℕ
+notes_html p w =
+    silent_if w.silent ++ (over_if w.over ++ (unreached_html w.sheet.row ++ stuck_html p w.sheet.row))
 
 -- what stands above its content
-unfoldable pub warning_head : Bool → WarningFigures → List ℕ
-warning_head moving w = warning_front moving w ++ (name_html w.sheet.row ++ version_html w.sheet.row)
+unfoldable pub warning_head : Picture → WarningFigures → List ℕ
+warning_head p w = warning_front p w ++ (name_html w.sheet.row ++ version_html w.sheet.row)
 
 -- its board and those of its areas
 unfoldable pub warning_boards : WarningFigures → List ℕ
 warning_boards w = board_html w.sheet.row.numbers ++ (areas_html w.areas ++ piece_html piece.ArticleEnd)
 
 -- a warning
-unfoldable pub warning_html : Bool → WarningFigures → List ℕ
-warning_html moving w =
-    warning_head moving w ++ (content_html w.sheet.content ++ (notes_html moving w ++ warning_boards w))
+unfoldable pub warning_html : Picture → WarningFigures → List ℕ
+warning_html p w =
+    warning_head p w ++ (content_html w.sheet.content ++ (notes_html p w ++ warning_boards w))
 
 -- where a section begins
 unfoldable pub section_class : Standing → List ℕ
@@ -169,33 +172,38 @@ unfoldable pub section_front : Standing → List ℕ → ℕ → List ℕ
 section_front s title count = section_class s ++ section_title title count
 
 -- a warning, if it stands so
-abbrev pub warning_if : Bool → Standing → WarningFigures → List ℕ
-warning_if moving s w = if warning_stands moving s w then warning_html moving w else []
+abbrev pub warning_if : Picture → Standing → WarningFigures → List ℕ
+warning_if p s w = if warning_stands p s w then warning_html p w else []
 
 -- the warnings that stand so, where there are so many of them
-unfoldable pub some_warnings : Bool → List WarningFigures → Standing → ℕ → List ℕ
-some_warnings moving warnings s count =
+unfoldable pub some_warnings : Picture → List WarningFigures → Standing → ℕ → List ℕ
+some_warnings p warnings s count =
     section_front s (warnings_title s) count
-    ++ (flat_map (warning_if moving s) warnings ++ piece_html piece.SectionEnd)
+    ++ (flat_map (warning_if p s) warnings ++ piece_html piece.SectionEnd)
 
 -- a section, or nothing where there are none
 abbrev pub section_if : (ℕ → List ℕ) → ℕ → List ℕ
 section_if section count = if count == 0 then [] else section count
 
 -- the warnings that stand so, as a section
-unfoldable pub warnings_section : Bool → List WarningFigures → Standing → List ℕ
-warnings_section moving warnings s = section_if (some_warnings moving warnings s) (count_by (warning_stands moving s) warnings)
+unfoldable pub warnings_section : Picture → List WarningFigures → Standing → List ℕ
+warnings_section p warnings s = section_if (some_warnings p warnings s) (count_by (warning_stands p s) p.warnings)
 
--- those at which somebody has to look, first those that reach nobody, then the silent ones
-unfoldable pub urgent_sections : Bool → List WarningFigures → List ℕ
-urgent_sections moving warnings =
-    warnings_section moving warnings Unreached
-    ++ (warnings_section moving warnings Silent ++ warnings_section moving warnings Wrong)
+-- those at which somebody has to look: first the emergencies, then what reaches nobody, then the silent ones
+unfoldable pub urgent_sections : Picture → List WarningFigures → List ℕ
+urgent_sections p warnings =
+    warnings_section p warnings Pressing
+    ++ (warnings_section p warnings Unreached
+    ++ (warnings_section p warnings Silent ++ warnings_section p warnings Wrong))
 
--- all warnings, the most urgent first
-unfoldable pub warnings_html : Bool → List WarningFigures → List ℕ
-warnings_html moving warnings =
+-- the others, the most urgent first
+unfoldable pub other_sections : Picture → List WarningFigures → List ℕ
+other_sections p warnings =
+    warnings_section p warnings UnderWay
+    ++ (warnings_section p warnings InOrder ++ warnings_section p warnings Stopped)
+
+-- all warnings of the picture, in that order
+unfoldable pub warnings_html : Picture → List WarningFigures → List ℕ
+warnings_html p warnings =
     piece_html piece.WarningsFront
-    ++ (urgent_sections moving warnings
-    ++ (warnings_section moving warnings UnderWay
-    ++ (warnings_section moving warnings InOrder ++ (warnings_section moving warnings Stopped ++ piece_html piece.BlockEnd))))
+    ++ (urgent_sections p warnings ++ (other_sections p warnings ++ piece_html piece.BlockEnd))

@@ -86,7 +86,7 @@ fn push_figure_of(
 
 /// Appends a number that is told where it isn't 0.
 #[tactic(auto, unfolding(crate::specs::Boards::figure_if))]
-fn push_figure_if(
+pub(crate) fn push_figure_if(
     alloc: Global,
     out: &mut Vec<u8>,
     class: &str,

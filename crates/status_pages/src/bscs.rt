@@ -5,9 +5,9 @@ ghost use Rattle.std.specs.List.{flat_map};
 ghost use Rattle.status_pages.specs.BscParts.{bsc_counts_html, bsc_front, bsc_html, bsc_if, bscs_html, bscs_section, bscs_title, cells_html, down_html, down_if, flight_html, flight_if, front_with, link_class, link_html, out_for, pending_html, seconds_html, some_bscs};
 
 use crate::piece::{Piece, push_piece};
+use crate::sections::{push_section_front, standing_class};
 use crate::standing::Standing;
 use crate::standings::{bsc_standing, bsc_stands, count_bscs};
-use crate::warnings::{push_section_front, standing_class};
 use centre_past::lists::FlightRow;
 use status_figures::{BscFigures, flight_name, four_digits, is_in_service, link_word};
 use std::alloc::{AllocError, Global};
@@ -16,6 +16,7 @@ fn title(standing: Standing) -> &'static str
     ensures { result.now ≡ bscs_title standing }
 {
     match standing {
+        Standing::Pressing => "BSCs that press",
         Standing::Unreached => "BSCs that reach no cell",
         Standing::Silent => "Silent BSCs",
         Standing::Wrong => "BSCs to look at",

@@ -34,6 +34,9 @@ header.bad h1::before, section.bad h2::before { content: "\2716\00a0"; }
 header.busy h1::before, section.busy h2::before { content: "\25b6\00a0"; }
 header.good h1::before, section.good h2::before { content: "\2714\00a0"; }
 section.off h2::before { content: "\25a0\00a0"; }
+.why { max-height: 9rem; overflow-y: auto; list-style: none; font-weight: 600; }
+.why:empty { display: none; }
+.why a { color: inherit; }
 .when { font-weight: 600; }
 .sums { display: flex; flex-wrap: wrap; gap: 0 1.2rem; list-style: none; }
 h2 { margin: 1rem 0 0.4rem; font-size: 1.3rem; font-weight: 700; }

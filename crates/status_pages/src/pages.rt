@@ -1,14 +1,16 @@
 //! The page.
 
 ghost use Rattle.std.specs.Prelude.{◌≡◌, ◌++◌, IfOk, OnOk};
-ghost use Rattle.status_pages.specs.Pages.{front_html, lists_html, main_html, page_html, taken_html};
+ghost use Rattle.status_pages.specs.Pages.{front_html, lists_html, main_html, page_html, state_html, taken_html};
 
 use crate::bscs::push_bscs;
+use crate::causes::push_causes;
 use crate::fixed::{push_after, push_before, push_layout, push_looks};
 use crate::header::{push_moment, push_verdict};
 use crate::items::push_figures;
 use crate::piece::{Piece, push_piece};
-use crate::standings::are_moving;
+use crate::ranked_warning::RankedWarning;
+use crate::ranks::ranked;
 use crate::verdict::Verdict;
 use crate::verdicts::{verdict_of, word};
 use crate::warnings::push_warnings;
@@ -63,20 +65,40 @@ fn push_main(
 ) -> Result<(), AllocError>
     ensures { OnOk result (out.new.items ≡ out.old.items ++ main_html picture.now verdict) }
 {
-    push_taken(alloc, out, picture.taken)?;
-    push_verdict(alloc, out, verdict)?;
+    let warnings = ranked(alloc, picture.warnings.as_slice())?;
+    push_state(alloc, out, picture, verdict, warnings.as_slice())?;
     push_moment(out, picture.taken)?;
     push_figures(alloc, out, picture)?;
-    push_lists(alloc, out, picture)
+    push_lists(alloc, out, picture, warnings.as_slice())
+}
+
+/// Appends how the centre stands, and why.
+#[tactic(auto, unfolding(crate::specs::Pages::state_html))]
+fn push_state(
+    alloc: Global,
+    out: &mut Vec<u8>,
+    picture: &Picture,
+    verdict: Verdict,
+    warnings: &[RankedWarning],
+) -> Result<(), AllocError>
+    ensures { OnOk result (out.new.items ≡ out.old.items ++ state_html picture.now verdict warnings.now) }
+{
+    push_taken(alloc, out, picture.taken)?;
+    push_verdict(alloc, out, verdict)?;
+    push_causes(alloc, out, picture, warnings)
 }
 
 #[tactic(auto, unfolding(crate::specs::Pages::lists_html))]
-fn push_lists(alloc: Global, out: &mut Vec<u8>, picture: &Picture) -> Result<(), AllocError>
-    ensures { OnOk result (out.new.items ≡ out.old.items ++ lists_html picture.now) }
+fn push_lists(
+    alloc: Global,
+    out: &mut Vec<u8>,
+    picture: &Picture,
+    warnings: &[RankedWarning],
+) -> Result<(), AllocError>
+    ensures { OnOk result (out.new.items ≡ out.old.items ++ lists_html picture.now warnings.now) }
 {
     push_piece(out, Piece::ColumnsFront)?;
-    let moving = are_moving(picture.taken, picture.bscs.as_slice());
-    push_warnings(alloc, out, moving, picture.warnings.as_slice())?;
+    push_warnings(alloc, out, picture, warnings)?;
     push_bscs(alloc, out, picture.taken, picture.bscs.as_slice())?;
     push_piece(out, Piece::ColumnsEnd)
 }

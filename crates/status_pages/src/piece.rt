@@ -27,6 +27,10 @@ pub(crate) enum Piece {
     TextFront,
     MomentFront,
     MomentEnd,
+    CausesFront,
+    /// The name of an area in a line of the causes stands between the two.
+    InFront,
+    InEnd,
     SumsFront,
     SumsEnd,
     ColumnsFront,
@@ -58,7 +62,7 @@ impl Piece {
                 "<p class=\"none\">REACHES NO CELL. Its areas cover no registered cell, so nobody gets it. Look at the areas: area put and widen bring it on air.</p>"
             }
             Piece::Stuck => {
-                "<p class=\"none\">Cells are awaited or left, but no BSC is under way. If a BSC refused an order, type retry B. Else a cell or a link is down, or a BSC does not answer.</p>"
+                "<p class=\"none\">Cells are awaited or left, but no BSC is at work for it. If a BSC refused an order, type retry B. Else a cell or a link is down, or a BSC does not answer.</p>"
             }
             Piece::SilentFront => {
                 "<p class=\"none\">Its number of broadcasts does not rise in cells where it is on air: <b>"
@@ -69,6 +73,9 @@ impl Piece {
             Piece::TextFront => "<p class=\"text\" dir=\"auto\">",
             Piece::MomentFront => "<p class=\"when\">Picture of ",
             Piece::MomentEnd => " UTC<span id=\"age\"></span></p>",
+            Piece::CausesFront => "<ul class=\"why\">",
+            Piece::InFront => "in <bdi>",
+            Piece::InEnd => "</bdi> ",
             Piece::SumsFront => "<ul class=\"sums\">",
             Piece::SumsEnd => "</ul></header>",
             Piece::ColumnsFront => "<div class=\"cols\">",

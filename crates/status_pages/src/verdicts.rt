@@ -4,7 +4,7 @@ ghost use Rattle.std.specs.Prelude.{◌≡◌};
 ghost use Rattle.status_pages.specs.Pages.{counted, has_no_bsc, has_some, has_wrong, verdict_class, verdict_of, verdict_text, verdict_word};
 
 use crate::standing::Standing;
-use crate::standings::{are_moving, count_bscs, count_warnings};
+use crate::standings::{count_bscs, count_needing_look, count_urgent, count_warnings};
 use crate::verdict::Verdict;
 use status_figures::{Health, Picture, health_of};
 
@@ -23,8 +23,7 @@ fn counted(wrong: bool, empty: bool, busy: bool) -> Verdict
 fn has_some(picture: &Picture, standing: Standing) -> bool
     ensures { result ≡ has_some picture.now standing }
 {
-    let moving = are_moving(picture.taken, picture.bscs.as_slice());
-    count_warnings(moving, standing, picture.warnings.as_slice()) != 0
+    count_warnings(picture, standing) != 0
         || count_bscs(picture.taken, standing, picture.bscs.as_slice()) != 0
 }
 
@@ -32,9 +31,7 @@ fn has_some(picture: &Picture, standing: Standing) -> bool
 fn has_wrong(picture: &Picture) -> bool
     ensures { result ≡ has_wrong picture.now }
 {
-    has_some(picture, Standing::Unreached)
-        || has_some(picture, Standing::Silent)
-        || has_some(picture, Standing::Wrong)
+    count_urgent(picture) != 0 || count_needing_look(picture.taken, picture.bscs.as_slice()) != 0
 }
 
 fn has_no_bsc(picture: &Picture) -> bool
@@ -89,13 +86,13 @@ pub(crate) fn advice(verdict: Verdict) -> &'static str
             "The centre is stale. It does not know what is on air. Type rebuild at a console."
         }
         Verdict::IsFull => "The journal is full. No event is taken. Type checkpoint at a console.",
-        Verdict::SomeWrong => "Somebody has to look at what stands first below.",
+        Verdict::SomeWrong => "Somebody has to look:",
         Verdict::IsEmpty => "No BSC is registered. The centre knows nothing of what is on air.",
         Verdict::SomeUnderWay => {
-            "Every link is up, and no warning failed in any cell. If this stays, look at what is awaited or left."
+            "No link and no cell is down, and no warning failed in any cell. If this stays, look at what is awaited or left."
         }
         Verdict::AllInOrder => {
-            "Every link is up, no warning failed in any cell, and no order is to come."
+            "Every link is up, no cell is down, no warning failed in any cell, and no order is to come."
         }
     }
 }

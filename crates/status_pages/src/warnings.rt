@@ -2,34 +2,26 @@
 
 ghost use Rattle.std.specs.Prelude.{◌≡◌, ◌++◌, IfOk, OnOk, string_bytes};
 ghost use Rattle.std.specs.List.{flat_map};
-ghost use Rattle.status_pages.specs.WarningParts.{front_with, message_html, name_html, notes_html, number_html, over_html, over_if, section_class, section_front, section_title, serial_html, silent_html, silent_if, some_warnings, standing_class, stuck_html, unreached_html, urgent_sections, version_html, version_with, warning_boards, warning_front, warning_head, warning_html, warning_if, warnings_html, warnings_section, warnings_title};
+ghost use Rattle.status_pages.specs.WarningParts.{front_with, message_html, name_html, notes_html, number_html, other_sections, over_html, over_if, serial_html, silent_html, silent_if, some_warnings, stuck_html, unreached_html, urgent_sections, version_html, version_with, warning_boards, warning_front, warning_head, warning_html, warning_if, warnings_html, warnings_section, warnings_title};
 
 use crate::boards::{push_areas, push_board};
 use crate::contents::push_content;
 use crate::piece::{Piece, push_piece};
+use crate::ranked_warning::RankedWarning;
+use crate::sections::{push_section_front, standing_class};
 use crate::standing::Standing;
 use crate::standings::{count_warnings, is_stuck, is_unreached, warning_standing, warning_stands};
 use crate::times::push_time;
 use centre_past::lists::WarningRow;
 use serials::Serial;
-use status_figures::{WarningFigures, four_digits, kind_name, state_name};
+use status_figures::{Picture, WarningFigures, four_digits, kind_name, state_name};
 use std::alloc::{AllocError, Global};
-
-pub(crate) fn standing_class(standing: Standing) -> &'static str
-    ensures { result.now ≡ standing_class standing }
-{
-    match standing {
-        Standing::Unreached | Standing::Silent | Standing::Wrong => "bad",
-        Standing::UnderWay => "busy",
-        Standing::InOrder => "good",
-        Standing::Stopped => "off",
-    }
-}
 
 fn title(standing: Standing) -> &'static str
     ensures { result.now ≡ warnings_title standing }
 {
     match standing {
+        Standing::Pressing => "Emergency warnings to look at",
         Standing::Unreached => "Warnings that reach no cell",
         Standing::Silent => "Silent warnings",
         Standing::Wrong => "Warnings to look at",
@@ -120,12 +112,12 @@ fn push_front_with(
 fn push_front(
     alloc: Global,
     out: &mut Vec<u8>,
-    moving: bool,
+    picture: &Picture,
     warning: &WarningFigures,
 ) -> Result<(), AllocError>
-    ensures { OnOk result (out.new.items ≡ out.old.items ++ warning_front moving warning.now) }
+    ensures { OnOk result (out.new.items ≡ out.old.items ++ warning_front picture.now warning.now) }
 {
-    let class = standing_class(warning_standing(moving, warning));
+    let class = standing_class(warning_standing(picture, warning));
     push_front_with(alloc, out, warning.sheet.row.number.number(), class)
 }
 
@@ -143,10 +135,10 @@ fn push_unreached(out: &mut Vec<u8>, row: &WarningRow) -> Result<(), AllocError>
 
 /// Says of a stuck warning that it is, and what there is to do.
 #[tactic(auto, unfolding(crate::specs::WarningParts::stuck_html))]
-fn push_stuck(out: &mut Vec<u8>, moving: bool, row: &WarningRow) -> Result<(), AllocError>
-    ensures { OnOk result (out.new.items ≡ out.old.items ++ stuck_html moving row.now) }
+fn push_stuck(out: &mut Vec<u8>, picture: &Picture, row: &WarningRow) -> Result<(), AllocError>
+    ensures { OnOk result (out.new.items ≡ out.old.items ++ stuck_html picture.now row.now) }
 {
-    if is_stuck(moving, row) {
+    if is_stuck(picture, row) {
         push_piece(out, Piece::Stuck)
     } else {
         Ok(())
@@ -197,15 +189,15 @@ fn push_over_if(out: &mut Vec<u8>, since: Option<u64>) -> Result<(), AllocError>
 fn push_notes(
     alloc: Global,
     out: &mut Vec<u8>,
-    moving: bool,
+    picture: &Picture,
     warning: &WarningFigures,
 ) -> Result<(), AllocError>
-    ensures { OnOk result (out.new.items ≡ out.old.items ++ notes_html moving warning.now) }
+    ensures { OnOk result (out.new.items ≡ out.old.items ++ notes_html picture.now warning.now) }
 {
     push_silent_if(alloc, out, warning.silent)?;
     push_over_if(out, warning.over)?;
     push_unreached(out, &warning.sheet.row)?;
-    push_stuck(out, moving, &warning.sheet.row)
+    push_stuck(out, picture, &warning.sheet.row)
 }
 
 /// Appends what stands above a warning's content.
@@ -213,12 +205,12 @@ fn push_notes(
 fn push_head(
     alloc: Global,
     out: &mut Vec<u8>,
-    moving: bool,
+    picture: &Picture,
     warning: &WarningFigures,
 ) -> Result<(), AllocError>
-    ensures { OnOk result (out.new.items ≡ out.old.items ++ warning_head moving warning.now) }
+    ensures { OnOk result (out.new.items ≡ out.old.items ++ warning_head picture.now warning.now) }
 {
-    push_front(alloc, out, moving, warning)?;
+    push_front(alloc, out, picture, warning)?;
     push_name(alloc, out, &warning.sheet.row)?;
     push_version(alloc, out, &warning.sheet.row)
 }
@@ -238,72 +230,29 @@ fn push_boards(alloc: Global, out: &mut Vec<u8>, warning: &WarningFigures) -> Re
 fn push_warning(
     alloc: Global,
     out: &mut Vec<u8>,
-    moving: bool,
+    picture: &Picture,
     warning: &WarningFigures,
 ) -> Result<(), AllocError>
-    ensures { OnOk result (out.new.items ≡ out.old.items ++ warning_html moving warning.now) }
+    ensures { OnOk result (out.new.items ≡ out.old.items ++ warning_html picture.now warning.now) }
 {
-    push_head(alloc, out, moving, warning)?;
+    push_head(alloc, out, picture, warning)?;
     push_content(alloc, out, &warning.sheet.content)?;
-    push_notes(alloc, out, moving, warning)?;
+    push_notes(alloc, out, picture, warning)?;
     push_boards(alloc, out, warning)
-}
-
-/// Appends where a section begins.
-#[tactic(auto, unfolding(crate::specs::WarningParts::section_class))]
-fn push_section_class(
-    alloc: Global,
-    out: &mut Vec<u8>,
-    standing: Standing,
-) -> Result<(), AllocError>
-    ensures { OnOk result (out.new.items ≡ out.old.items ++ section_class standing) }
-{
-    let class = standing_class(standing);
-    let text = format!(in alloc; "<section class=\"{class}\">")?;
-    out.extend_from_slice(text.as_bytes())
-}
-
-/// Appends what a section is called, and how many there are.
-#[tactic(auto, unfolding(crate::specs::WarningParts::section_title))]
-fn push_section_title(
-    alloc: Global,
-    out: &mut Vec<u8>,
-    title: &str,
-    count: u64,
-) -> Result<(), AllocError>
-    ensures { OnOk result (out.new.items ≡ out.old.items ++ section_title title.now count) }
-{
-    let text = format!(in alloc; "<h2>{title} <b>{count}</b></h2><div>")?;
-    out.extend_from_slice(text.as_bytes())
-}
-
-/// Appends what stands above the warnings or the BSCs of a section.
-#[tactic(auto, unfolding(crate::specs::WarningParts::section_front))]
-pub(crate) fn push_section_front(
-    alloc: Global,
-    out: &mut Vec<u8>,
-    standing: Standing,
-    title: &str,
-    count: u64,
-) -> Result<(), AllocError>
-    ensures { OnOk result (out.new.items ≡ out.old.items ++ section_front standing title.now count) }
-{
-    push_section_class(alloc, out, standing)?;
-    push_section_title(alloc, out, title, count)
 }
 
 /// Appends a warning, if it stands so.
 fn push_if(
     alloc: Global,
     out: &mut Vec<u8>,
-    moving: bool,
+    picture: &Picture,
     standing: Standing,
     warning: &WarningFigures,
 ) -> Result<(), AllocError>
-    ensures { OnOk result (out.new.items ≡ out.old.items ++ warning_if moving standing warning.now) }
+    ensures { OnOk result (out.new.items ≡ out.old.items ++ warning_if picture.now standing warning.now) }
 {
-    if warning_stands(moving, standing, warning) {
-        push_warning(alloc, out, moving, warning)
+    if warning_stands(picture, standing, warning) {
+        push_warning(alloc, out, picture, warning)
     } else {
         Ok(())
     }
@@ -313,14 +262,14 @@ fn push_if(
 fn push_standing(
     alloc: Global,
     out: &mut Vec<u8>,
-    moving: bool,
-    warnings: &[WarningFigures],
+    picture: &Picture,
+    warnings: &[RankedWarning],
     standing: Standing,
 ) -> Result<(), AllocError>
-    ensures { OnOk result (out.new.items ≡ out.old.items ++ flat_map (warning_if moving standing) warnings.now) }
+    ensures { OnOk result (out.new.items ≡ out.old.items ++ flat_map (warning_if picture.now standing) warnings.now) }
 {
     for warning in warnings {
-        push_if(alloc, out, moving, standing, warning)?;
+        push_if(alloc, out, picture, standing, warning.get())?;
     }
     Ok(())
 }
@@ -330,15 +279,15 @@ fn push_standing(
 fn push_some(
     alloc: Global,
     out: &mut Vec<u8>,
-    moving: bool,
-    warnings: &[WarningFigures],
+    picture: &Picture,
+    warnings: &[RankedWarning],
     standing: Standing,
     count: u64,
 ) -> Result<(), AllocError>
-    ensures { OnOk result (out.new.items ≡ out.old.items ++ some_warnings moving warnings.now standing count) }
+    ensures { OnOk result (out.new.items ≡ out.old.items ++ some_warnings picture.now warnings.now standing count) }
 {
     push_section_front(alloc, out, standing, title(standing), count)?;
-    push_standing(alloc, out, moving, warnings, standing)?;
+    push_standing(alloc, out, picture, warnings, standing)?;
     push_piece(out, Piece::SectionEnd)
 }
 
@@ -346,47 +295,61 @@ fn push_some(
 fn push_section(
     alloc: Global,
     out: &mut Vec<u8>,
-    moving: bool,
-    warnings: &[WarningFigures],
+    picture: &Picture,
+    warnings: &[RankedWarning],
     standing: Standing,
 ) -> Result<(), AllocError>
-    ensures { OnOk result (out.new.items ≡ out.old.items ++ warnings_section moving warnings.now standing) }
+    ensures { OnOk result (out.new.items ≡ out.old.items ++ warnings_section picture.now warnings.now standing) }
 {
-    match count_warnings(moving, standing, warnings) {
+    match count_warnings(picture, standing) {
         0 => Ok(()),
-        count => push_some(alloc, out, moving, warnings, standing, count as u64),
+        count => push_some(alloc, out, picture, warnings, standing, count as u64),
     }
 }
 
-/// Appends those at which somebody has to look, first those that reach nobody, then the silent ones.
+/// Appends those at which somebody has to look: first the emergencies, then what reaches nobody, then the silent ones.
 #[tactic(auto, unfolding(crate::specs::WarningParts::urgent_sections))]
 fn push_urgent(
     alloc: Global,
     out: &mut Vec<u8>,
-    moving: bool,
-    warnings: &[WarningFigures],
+    picture: &Picture,
+    warnings: &[RankedWarning],
 ) -> Result<(), AllocError>
-    ensures { OnOk result (out.new.items ≡ out.old.items ++ urgent_sections moving warnings.now) }
+    ensures { OnOk result (out.new.items ≡ out.old.items ++ urgent_sections picture.now warnings.now) }
 {
-    push_section(alloc, out, moving, warnings, Standing::Unreached)?;
-    push_section(alloc, out, moving, warnings, Standing::Silent)?;
-    push_section(alloc, out, moving, warnings, Standing::Wrong)
+    push_section(alloc, out, picture, warnings, Standing::Pressing)?;
+    push_section(alloc, out, picture, warnings, Standing::Unreached)?;
+    push_section(alloc, out, picture, warnings, Standing::Silent)?;
+    push_section(alloc, out, picture, warnings, Standing::Wrong)
 }
 
-/// Appends all warnings, the most urgent first.
+/// Appends the others, the most urgent first.
+#[tactic(auto, unfolding(crate::specs::WarningParts::other_sections))]
+fn push_others(
+    alloc: Global,
+    out: &mut Vec<u8>,
+    picture: &Picture,
+    warnings: &[RankedWarning],
+) -> Result<(), AllocError>
+    ensures { OnOk result (out.new.items ≡ out.old.items ++ other_sections picture.now warnings.now) }
+{
+    push_section(alloc, out, picture, warnings, Standing::UnderWay)?;
+    push_section(alloc, out, picture, warnings, Standing::InOrder)?;
+    push_section(alloc, out, picture, warnings, Standing::Stopped)
+}
+
+/// Appends all warnings of the picture, which come in their order.
 #[tactic(auto, unfolding(crate::specs::WarningParts::warnings_html))]
 pub(crate) fn push_warnings(
     alloc: Global,
     out: &mut Vec<u8>,
-    moving: bool,
-    warnings: &[WarningFigures],
+    picture: &Picture,
+    warnings: &[RankedWarning],
 ) -> Result<(), AllocError>
-    ensures { OnOk result (out.new.items ≡ out.old.items ++ warnings_html moving warnings.now) }
+    ensures { OnOk result (out.new.items ≡ out.old.items ++ warnings_html picture.now warnings.now) }
 {
     push_piece(out, Piece::WarningsFront)?;
-    push_urgent(alloc, out, moving, warnings)?;
-    push_section(alloc, out, moving, warnings, Standing::UnderWay)?;
-    push_section(alloc, out, moving, warnings, Standing::InOrder)?;
-    push_section(alloc, out, moving, warnings, Standing::Stopped)?;
+    push_urgent(alloc, out, picture, warnings)?;
+    push_others(alloc, out, picture, warnings)?;
     push_piece(out, Piece::BlockEnd)
 }

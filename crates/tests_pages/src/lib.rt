@@ -9,6 +9,8 @@ mod escape_tests;
 #[cfg(test)]
 mod figure_tests;
 #[cfg(test)]
+mod order_tests;
+#[cfg(test)]
 mod page_tests;
 #[cfg(test)]
 mod pictures;

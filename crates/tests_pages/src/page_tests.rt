@@ -17,7 +17,11 @@ const PARTS: &[(&str, &str)] = &[
     ),
     (
         "when",
-        "<main id=\"now\" data-taken=\"1764309123\"><header class=\"bad\"><h1>ATTENTION</h1>",
+        "<main id=\"now\" data-taken=\"1764309123\"><header class=\"bad\"><h1>ATTENTION</h1><p>Somebody has to look:</p>",
+    ),
+    (
+        "why",
+        "<ul class=\"why\"><li><a href=\"#w3\">Warning 3</a> <span class=\"f\"><b>2</b> cells failed</span> in <bdi>Coast</bdi> <span class=\"a\"><b>4</b> cells awaited</span> <span class=\"l\"><b>1</b> places left</span> </li><li><a href=\"#b12\">BSC 12</a> link down </li></ul><p class=\"when\">",
     ),
     (
         "the time",

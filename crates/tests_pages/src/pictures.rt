@@ -114,21 +114,43 @@ pub(crate) fn picture_with(
     picture_of(rt, alloc, warnings, bscs(rt, alloc, &[]), refusals)
 }
 
-/// A warning with these numbers, which is active or stopped.
+/// A warning of that number, message identifier and kind with these numbers, which is active or stopped, and has no content.
+pub(crate) fn bare_warning(
+    rt: &impl Abort,
+    alloc: Global,
+    named: (u32, u16, Kind),
+    serial: Option<u16>,
+    numbers: Numbers,
+) -> WarningFigures {
+    let (number, message_id, kind) = named;
+    let row = row(alloc, number, message_id, serial, kind, numbers);
+    WarningFigures {
+        sheet: WarningSheet { row, content: None },
+        areas: areas(rt, alloc, &[]),
+        silent: 0,
+        over: None,
+    }
+}
+
+/// Warning 9, a text with these numbers, which is active or stopped.
 fn one_warning(
     rt: &impl Abort,
     alloc: Global,
     serial: Option<u16>,
     numbers: Numbers,
 ) -> WarningFigures {
-    let row = row(alloc, 9, 4370, serial, Kind::Emergency, numbers);
-    let content = Some(emergency(0x0580));
-    WarningFigures {
-        sheet: WarningSheet { row, content },
-        areas: areas(rt, alloc, &[]),
-        silent: 0,
-        over: None,
-    }
+    bare_warning(rt, alloc, (9, 4370, Kind::Cbs), serial, numbers)
+}
+
+/// A centre of these warnings and of these BSCs.
+pub(crate) fn picture_of_all(
+    rt: &impl Abort,
+    alloc: Global,
+    warnings: Vec<WarningFigures>,
+    all: &[BscFigures],
+) -> Picture {
+    let bscs = bscs(rt, alloc, all);
+    picture_of(rt, alloc, warnings, bscs, tallies(rt, alloc, &[]))
 }
 
 /// A centre of one warning and of these BSCs.
@@ -140,8 +162,7 @@ fn picture_with_one(
 ) -> Picture {
     let mut warnings = Vec::new(alloc);
     warnings.push(warning).expect(rt, "memory");
-    let bscs = bscs(rt, alloc, all);
-    picture_of(rt, alloc, warnings, bscs, tallies(rt, alloc, &[]))
+    picture_of_all(rt, alloc, warnings, all)
 }
 
 /// A centre of one warning with these numbers, which is active or stopped, and of these BSCs.

@@ -13,7 +13,7 @@ use std::process::Abort;
 
 /// What a page of a stuck warning says.
 const STUCK: &[u8] =
-    b"</p><p class=\"none\">Cells are awaited or left, but no BSC is under way. If a BSC refused an order, type retry B. Else a cell or a link is down, or a BSC does not answer.</p>";
+    b"</p><p class=\"none\">Cells are awaited or left, but no BSC is at work for it. If a BSC refused an order, type retry B. Else a cell or a link is down, or a BSC does not answer.</p>";
 
 /// What a page has to say of a warning, and whether that it is stuck.
 #[derive(Clone, Copy)]
@@ -24,19 +24,19 @@ struct Wanted {
 }
 
 const IS_STUCK: Wanted = Wanted {
-    word: b"<header class=\"bad\"><h1>ATTENTION</h1><p>Somebody has to look at what stands first below.</p>",
+    word: b"<header class=\"bad\"><h1>ATTENTION</h1><p>Somebody has to look:</p><ul class=\"why\"><li><a href=\"#w9\">Warning 9</a> ",
     title: b"<section class=\"bad\"><h2>Warnings to look at <b>1</b></h2>",
     stuck: true,
 };
 
 const UNDER_WAY: Wanted = Wanted {
-    word: b"<header class=\"busy\"><h1>UNDER WAY</h1><p>Every link is up, and no warning failed in any cell. If this stays, look at what is awaited or left.</p>",
+    word: b"<header class=\"busy\"><h1>UNDER WAY</h1><p>No link and no cell is down, and no warning failed in any cell. If this stays, look at what is awaited or left.</p>",
     title: b"<section class=\"busy\"><h2>Warnings under way <b>1</b></h2>",
     stuck: false,
 };
 
 const IN_ORDER: Wanted = Wanted {
-    word: b"<header class=\"good\"><h1>ALL IN ORDER</h1><p>Every link is up, no warning failed in any cell, and no order is to come.</p>",
+    word: b"<header class=\"good\"><h1>ALL IN ORDER</h1><p>Every link is up, no cell is down, no warning failed in any cell, and no order is to come.</p>",
     title: b"<section class=\"good\"><h2>Warnings on air <b>1</b></h2>",
     stuck: false,
 };
@@ -228,6 +228,78 @@ fn a_reset_without_an_answer_is_shown(rt: HostRuntime) {
     yes(&rt, has(found.as_slice(), since), "since when");
 }
 
+/// A BSC to which that is in flight for a second, and for which so many messages are pending, that one too if it is an order.
+fn busy_with(
+    rt: &impl Abort,
+    kind: FlightKind,
+    id: u16,
+    serial: u16,
+    pending: usize,
+) -> BscFigures {
+    let flight = FlightRow {
+        kind,
+        message_id: id,
+        serial: Serial::from_u16(serial),
+    };
+    bsc(rt, 2, true, Some(flight), Some(TAKEN - 1), pending)
+}
+
+/// BSC 1 refused an order for the warning and has nothing to do. BSC 2 has, and only an order that may be of the warning is at work for it.
+#[test]
+fn a_bsc_is_at_work_for_its_own_warnings(rt: HostRuntime) {
+    let alloc = rt.alloc();
+    let current = Some(0x4031);
+    let left = numbers(0, 0, 0, 1);
+    let awaited = numbers(1, 6, 0, 0);
+    let rows = [
+        (None, left, FlightKind::Write, 4371, 0x4031, 1, IS_STUCK),
+        (None, left, FlightKind::Kill, 4370, 0x4031, 1, UNDER_WAY),
+        (None, left, FlightKind::Write, 4371, 0x4031, 2, UNDER_WAY),
+        (None, left, FlightKind::Query, 4370, 0x4031, 0, IS_STUCK),
+        (None, left, FlightKind::Query, 4371, 0x4031, 1, UNDER_WAY),
+        (
+            current,
+            awaited,
+            FlightKind::Write,
+            4370,
+            0x4041,
+            1,
+            IS_STUCK,
+        ),
+        (
+            current,
+            awaited,
+            FlightKind::Replace,
+            4370,
+            0x403F,
+            1,
+            UNDER_WAY,
+        ),
+        (
+            current,
+            awaited,
+            FlightKind::Write,
+            4370,
+            0x4031,
+            1,
+            UNDER_WAY,
+        ),
+        (
+            current,
+            awaited,
+            FlightKind::Write,
+            4370,
+            0x8031,
+            1,
+            IS_STUCK,
+        ),
+    ];
+    for (serial, numbers, kind, id, out, pending, want) in rows {
+        let bscs = [up(&rt, None, 0), busy_with(&rt, kind, id, out, pending)];
+        says(&rt, alloc, serial, numbers, &bscs, want, "who is at work");
+    }
+}
+
 /// A BSC that is up and has 9 cells, of which so many are down.
 fn with_down(rt: &impl Abort, count: Option<u64>) -> BscFigures {
     let mut figures = up(rt, None, 0);
@@ -237,13 +309,13 @@ fn with_down(rt: &impl Abort, count: Option<u64>) -> BscFigures {
 
 /// Nothing is on air anywhere, so no warning can say what is wrong with a BSC.
 #[test]
-fn a_bsc_whose_cells_are_down_is_not_in_order(rt: HostRuntime) {
+fn a_bsc_with_a_cell_that_is_down_is_not_in_order(rt: HostRuntime) {
     let alloc = rt.alloc();
     let none = numbers(0, 0, 0, 0);
     let rows = [
         (None, QUIET, "not known"),
         (Some(0), QUIET, "no cell"),
-        (Some(8), QUIET, "all but one"),
+        (Some(1), QUIET_WRONG, "one cell"),
         (Some(9), QUIET_WRONG, "all cells"),
         (Some(10), QUIET_WRONG, "one that was taken out since"),
     ];

@@ -5,4 +5,4 @@ use Rattle.status_pages.proofs.warnings.push_standing.Given as goal
 
 -- what was appended so far, and what is ahead, are all of it
 abbrev pub invariant-loop-warning : goal.invariant-loop-warning
-invariant-loop-warning l = l.out.items ++ flat_map (warning_if l.moving l.standing) (drop l.warning-index l.warnings) ≡ l.initial.out.items ++ flat_map (warning_if l.moving l.standing) l.warnings
+invariant-loop-warning l = l.out.items ++ flat_map (warning_if l.picture l.standing) (drop l.warning-index l.warnings) ≡ l.initial.out.items ++ flat_map (warning_if l.picture l.standing) l.warnings
