@@ -3,6 +3,7 @@
 use Rattle.std.specs.Prelude.{ℕ, ◌+◌, Bool, true, false, List, [], ◌∷◌, ◌++◌, Option, Some, None, codes, decimal}
 use Rattle.std.specs.List.{flat_map}
 use Rattle.centre_past.specs.declared.lists.plan_counts.PlanCounts.{PlanCounts}
+use Rattle.centre_past.specs.declared.lists.warning_row.WarningRow.{WarningRow}
 use Rattle.coverage_board.specs.declared.numbers.Numbers.{Numbers}
 use Rattle.status_figures.specs.Labels.{label_text}
 use Rattle.status_figures.specs.Words.{is_in_service, newline}
@@ -165,19 +166,22 @@ refusals_text refusals =
 
 -- Warnings.
 
--- a sample of the cells of a warning
-unfoldable pub cells_line : ℕ → List ℕ → ℕ → List ℕ
-cells_line warning state count =
-    codes "cbc_cells{warning=\"" ++ (decimal warning ++ (codes "\",state=\"" ++ (state ++ (codes "\"} " ++ (decimal count ++ newline)))))
+-- a sample of the cells of a warning of that number and message identifier
+unfoldable pub cells_line : ℕ → ℕ → List ℕ → ℕ → List ℕ
+cells_line warning id state count =
+    codes "cbc_cells{warning=\"" ++ (decimal warning ++ (codes "\",message_id=\"" ++ (decimal id
+    ++ (codes "\",state=\"" ++ (state ++ (codes "\"} " ++ (decimal count ++ newline)))))))
 
 -- the cells of a warning
-unfoldable pub cells_lines : ℕ → Numbers → List ℕ
-cells_lines w n =
-    cells_line w (codes "awaited") n.awaited ++ (cells_line w (codes "on_air") n.on_air ++ cells_line w (codes "failed") n.failed)
+unfoldable pub cells_lines : WarningRow → List ℕ
+cells_lines w =
+    cells_line w.number w.message_id (codes "awaited") w.numbers.awaited
+    ++ (cells_line w.number w.message_id (codes "on_air") w.numbers.on_air
+    ++ cells_line w.number w.message_id (codes "failed") w.numbers.failed)
 
 -- those of a warning in a picture
 abbrev pub cells_of : WarningFigures → List ℕ
-cells_of w = cells_lines w.sheet.row.number w.sheet.row.numbers
+cells_of w = cells_lines w.sheet.row
 
 -- what stands above the cells of all warnings
 unfoldable pub cells_head : List ℕ
@@ -216,9 +220,10 @@ warning_metric_value of_warning.Broadcasts w = w.sheet.row.numbers.broadcasts
 warning_metric_value of_warning.Silent w = w.silent
 
 -- a sample of it
-abbrev pub warning_line : WarningMetric → WarningFigures → List ℕ
+unfoldable pub warning_line : WarningMetric → WarningFigures → List ℕ
 warning_line m w =
-    warning_metric_name m ++ (codes "{warning=\"" ++ (decimal w.sheet.row.number ++ (codes "\"} " ++ (decimal (warning_metric_value m w) ++ newline))))
+    warning_metric_name m ++ (codes "{warning=\"" ++ (decimal w.sheet.row.number ++ (codes "\",message_id=\"" ++ (decimal w.sheet.row.message_id
+    ++ (codes "\"} " ++ (decimal (warning_metric_value m w) ++ newline))))))
 
 -- the metric, of all warnings
 unfoldable pub warning_metric_text : WarningMetric → List WarningFigures → List ℕ
@@ -304,6 +309,24 @@ bsc_flights_text bscs =
 unfoldable pub bscs_text : List BscFigures → List ℕ
 bscs_text bscs = bsc_states_text bscs ++ bsc_flights_text bscs
 
+-- The program.
+
+-- the sample of a version
+unfoldable pub version_line : List ℕ → List ℕ
+version_line version = codes "cbc_build_info{version=\"" ++ (version ++ codes "\"} 1\n")
+
+-- the version of the program
+abbrev pub program_version : List ℕ
+program_version = codes "1.0.0"
+
+-- what stands above it
+unfoldable pub build_head : List ℕ
+build_head = head_text (codes "cbc_build_info") (codes "The version of the program.") gauge
+
+-- which version of the program this is
+unfoldable pub build_text : List ℕ
+build_text = build_head ++ version_line program_version
+
 -- The whole text.
 
 -- the centre's own metrics
@@ -312,4 +335,6 @@ centre_text p = flat_map (centre_metric_text p) centre_metrics ++ counts_text p.
 
 -- all metrics of a picture
 unfoldable pub metrics_text : Picture → List ℕ
-metrics_text p = centre_text p ++ (warnings_text p.warnings ++ (bscs_text p.bscs ++ (entries_text p.entries ++ refusals_text p.refusals)))
+metrics_text p =
+    build_text
+    ++ (centre_text p ++ (warnings_text p.warnings ++ (bscs_text p.bscs ++ (entries_text p.entries ++ refusals_text p.refusals))))

@@ -6,6 +6,7 @@ ghost use Rattle.status_figures.specs.Metrics.{cells_head, cells_line, cells_lin
 
 use crate::samples::{flag, push_head};
 use crate::warning_figures::WarningFigures;
+use centre_past::lists::WarningRow;
 use coverage_board::Numbers;
 use std::alloc::{AllocError, Global};
 
@@ -77,14 +78,14 @@ impl WarningMetric {
 fn push_cells_lines(
     alloc: Global,
     out: &mut Vec<u8>,
-    warning: u32,
-    numbers: Numbers,
+    warning: &WarningRow,
 ) -> Result<(), AllocError>
-    ensures { OnOk result (out.new.items ≡ out.old.items ++ cells_lines warning numbers) }
+    ensures { OnOk result (out.new.items ≡ out.old.items ++ cells_lines warning.now) }
 {
-    push_cells_line(alloc, out, warning, "awaited", numbers.awaited)?;
-    push_cells_line(alloc, out, warning, "on_air", numbers.on_air)?;
-    push_cells_line(alloc, out, warning, "failed", numbers.failed)
+    let (number, id, numbers) = (warning.number.number(), warning.message_id, warning.numbers);
+    push_cells_line(alloc, out, number, id, "awaited", numbers.awaited)?;
+    push_cells_line(alloc, out, number, id, "on_air", numbers.on_air)?;
+    push_cells_line(alloc, out, number, id, "failed", numbers.failed)
 }
 
 #[tactic(auto, unfolding(crate::specs::Metrics::cells_line))]
@@ -92,12 +93,15 @@ fn push_cells_line(
     alloc: Global,
     out: &mut Vec<u8>,
     warning: u32,
+    id: u16,
     state: &str,
     count: u64,
 ) -> Result<(), AllocError>
-    ensures { OnOk result (out.new.items ≡ out.old.items ++ cells_line warning state.now count) }
+    ensures { OnOk result (out.new.items ≡ out.old.items ++ cells_line warning id state.now count) }
 {
-    let line = format!(in alloc; "cbc_cells{{warning=\"{warning}\",state=\"{state}\"}} {count}\n")?;
+    let line = format!(in alloc;
+        "cbc_cells{{warning=\"{warning}\",message_id=\"{id}\",state=\"{state}\"}} {count}\n"
+    )?;
     out.extend_from_slice(line.as_bytes())
 }
 
@@ -109,8 +113,7 @@ fn push_all_cells(
     ensures { OnOk result (out.new.items ≡ out.old.items ++ flat_map cells_of warnings.now) }
 {
     for warning in warnings {
-        let row = &warning.sheet.row;
-        push_cells_lines(alloc, out, row.number.number(), row.numbers)?;
+        push_cells_lines(alloc, out, &warning.sheet.row)?;
     }
     Ok(())
 }
@@ -141,6 +144,7 @@ fn push_cells(
     push_all_cells(alloc, out, warnings)
 }
 
+#[tactic(auto, unfolding(crate::specs::Metrics::warning_line))]
 fn push_line(
     alloc: Global,
     out: &mut Vec<u8>,
@@ -151,8 +155,9 @@ fn push_line(
 {
     let name = metric.name();
     let number = warning.sheet.row.number.number();
+    let id = warning.sheet.row.message_id;
     let value = metric.value(warning);
-    let line = format!(in alloc; "{name}{{warning=\"{number}\"}} {value}\n")?;
+    let line = format!(in alloc; "{name}{{warning=\"{number}\",message_id=\"{id}\"}} {value}\n")?;
     out.extend_from_slice(line.as_bytes())
 }
 

@@ -1,8 +1,12 @@
 //! The tables and the metrics of a picture, written by hand, and what is said of the centre's health.
 
-use crate::checks::is_text;
+use crate::checks::{is_text, yes};
 use crate::pictures::{bare_picture, full_picture};
-use status_figures::{boards_csv, bscs_csv, health_of, health_text, metrics};
+use console_text::asked::read_options;
+use console_text::no_run::NoRun;
+use status_figures::{VERSION, boards_csv, bscs_csv, health_of, health_text, metrics};
+use std::alloc::Global;
+use std::process::Abort;
 
 const BOARDS: &str =
     "warning,message_id,serial,kind,state,area,awaited,on_air,failed,left,broadcasts
@@ -17,7 +21,10 @@ const BSCS: &str = "bsc,cells,link,generation,in_flight,message_id,serial,in_fli
 12,9,down,3,,,,,0
 ";
 
-const METRICS: &str = r##"# HELP cbc_picture_timestamp_seconds When the picture was taken.
+const METRICS: &str = r##"# HELP cbc_build_info The version of the program.
+# TYPE cbc_build_info gauge
+cbc_build_info{version="1.0.0"} 1
+# HELP cbc_picture_timestamp_seconds When the picture was taken.
 # TYPE cbc_picture_timestamp_seconds gauge
 cbc_picture_timestamp_seconds 1764309123
 # HELP cbc_stale Whether the centre is stale and has to be rebuilt.
@@ -61,32 +68,32 @@ cbc_warnings 21
 cbc_active_warnings 20
 # HELP cbc_cells Registered cells that an active warning covers, by how it stands there.
 # TYPE cbc_cells gauge
-cbc_cells{warning="3",state="awaited"} 4
-cbc_cells{warning="3",state="on_air"} 12
-cbc_cells{warning="3",state="failed"} 2
-cbc_cells{warning="8",state="awaited"} 0
-cbc_cells{warning="8",state="on_air"} 0
-cbc_cells{warning="8",state="failed"} 0
+cbc_cells{warning="3",message_id="4370",state="awaited"} 4
+cbc_cells{warning="3",message_id="4370",state="on_air"} 12
+cbc_cells{warning="3",message_id="4370",state="failed"} 2
+cbc_cells{warning="8",message_id="4352",state="awaited"} 0
+cbc_cells{warning="8",message_id="4352",state="on_air"} 0
+cbc_cells{warning="8",message_id="4352",state="failed"} 0
 # HELP cbc_warning_cells Registered cells in which a warning is planned: 0 of an active one that reaches nobody.
 # TYPE cbc_warning_cells gauge
-cbc_warning_cells{warning="3"} 18
-cbc_warning_cells{warning="8"} 0
+cbc_warning_cells{warning="3",message_id="4370"} 18
+cbc_warning_cells{warning="8",message_id="4352"} 0
 # HELP cbc_warning_active Whether a warning was not stopped.
 # TYPE cbc_warning_active gauge
-cbc_warning_active{warning="3"} 1
-cbc_warning_active{warning="8"} 0
+cbc_warning_active{warning="3",message_id="4370"} 1
+cbc_warning_active{warning="8",message_id="4352"} 0
 # HELP cbc_left_places Places where an old or unwanted version of a warning is on air or may be.
 # TYPE cbc_left_places gauge
-cbc_left_places{warning="3"} 1
-cbc_left_places{warning="8"} 0
+cbc_left_places{warning="3",message_id="4370"} 1
+cbc_left_places{warning="8",message_id="4352"} 0
 # HELP cbc_broadcasts How often a warning was broadcast in the cells that its areas cover, as reported.
 # TYPE cbc_broadcasts gauge
-cbc_broadcasts{warning="3"} 60
-cbc_broadcasts{warning="8"} 0
+cbc_broadcasts{warning="3",message_id="4370"} 60
+cbc_broadcasts{warning="8",message_id="4352"} 0
 # HELP cbc_silent_cells Cells in which a warning is on air, and its number of broadcasts does not rise.
 # TYPE cbc_silent_cells gauge
-cbc_silent_cells{warning="3"} 0
-cbc_silent_cells{warning="8"} 0
+cbc_silent_cells{warning="3",message_id="4370"} 0
+cbc_silent_cells{warning="8",message_id="4352"} 0
 # HELP cbc_bsc_link_up Whether the link of a BSC is up, and no RESET is out over it.
 # TYPE cbc_bsc_link_up gauge
 cbc_bsc_link_up{bsc="1"} 1
@@ -142,5 +149,27 @@ fn health_is_that_of_the_centre(rt: HostRuntime) {
         let picture = bare_picture(&rt, rt.alloc(), is_stale, limit);
         let found = health_text(health_of(&picture));
         is_text(&rt, found.as_bytes(), want, "health");
+    }
+}
+
+/// The words of a command line that asks for the version.
+fn words(rt: &impl Abort, alloc: Global) -> Vec<String> {
+    let mut words = Vec::new(alloc);
+    for word in ["cbc", "--version"] {
+        let word = String::from_str(alloc, word).expect(rt, "memory");
+        words.push(word).expect(rt, "memory");
+    }
+    words
+}
+
+/// `--version` prints the version that the metrics have.
+#[test]
+fn the_version_is_that_of_the_command_line(rt: HostRuntime) {
+    let alloc = rt.alloc();
+    let words = words(&rt, alloc);
+    let want = format!(in alloc; "cbc {VERSION}\n").expect(&rt, "memory");
+    match read_options(alloc, words.as_slice()) {
+        Err(NoRun::Help(text)) => is_text(&rt, text.as_bytes(), want.as_str(), "the version"),
+        _ => yes(&rt, false, "a version"),
     }
 }

@@ -22,7 +22,7 @@ fn a_silent_warning_is_shown_first(rt: HostRuntime) {
         b"<p class=\"none\">Its number of broadcasts does not rise in cells where it is on air: <b>2</b>. Type warning and its number at a console to see which.</p>";
     yes(&rt, has(found.as_slice(), note), "the note");
     let found = metrics(alloc, &picture).expect(&rt, "memory");
-    let line = b"\ncbc_silent_cells{warning=\"9\"} 2\n";
+    let line = b"\ncbc_silent_cells{warning=\"9\",message_id=\"4370\"} 2\n";
     yes(&rt, has(found.as_slice(), line), "the metric");
 }
 
@@ -38,6 +38,6 @@ fn a_warning_that_is_over_is_said_to_be(rt: HostRuntime) {
     let note = b"<p class=\"octets\">By its period it is over since 05:51:33 UTC.</p>";
     yes(&rt, has(found.as_slice(), note), "the note");
     let found = metrics(alloc, &picture).expect(&rt, "memory");
-    let line = b"\ncbc_silent_cells{warning=\"9\"} 0\n";
+    let line = b"\ncbc_silent_cells{warning=\"9\",message_id=\"4370\"} 0\n";
     yes(&rt, has(found.as_slice(), line), "the metric");
 }

@@ -186,8 +186,8 @@ fn a_warning_that_reaches_nobody_is_shown_first(rt: HostRuntime) {
         );
         let found = metrics(alloc, &picture).expect(&rt, "memory");
         let line = [
-            b"\ncbc_warning_cells{warning=\"9\"} 0\n",
-            b"\ncbc_warning_cells{warning=\"9\"} 1\n",
+            b"\ncbc_warning_cells{warning=\"9\",message_id=\"4370\"} 0\n",
+            b"\ncbc_warning_cells{warning=\"9\",message_id=\"4370\"} 1\n",
         ];
         yes(
             &rt,
