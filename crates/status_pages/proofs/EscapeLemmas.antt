@@ -1,11 +1,12 @@
 -- Escaped text.
-use Rattle.std.proofs.Common.{◌≡◌, ℕ, Bool, true, false, cond, List, [], ◌∷◌, ◌++◌, Option, Some, None, refl, ap, sym, ◌∙◌, eqb, ◌⊎◌, inl, inr, map}
+use Rattle.std.proofs.Common.{◌≡◌, ℕ, zero, suc, ◌+◌, ◌-◌, ◌/◌, ◌%◌, Bool, true, false, cond, List, [], ◌∷◌, ◌++◌, Option, Some, None, refl, ap, ◌∙◌, eqb, ◌⊎◌, inl, inr, arith, nat_lt}
 use Rattle.std.proofs.lemmas.Bool.{eqb-true}
-use Rattle.std.proofs.lemmas.List.Folds.{flat_map-map}
-use Rattle.std.specs.List.{AllByRecursion, flat_map}
+use Rattle.std.proofs.lemmas.Bool.Decides.{nat_tests}
+use Rattle.std.proofs.lemmas.Grind.{common_steps}
 use Rattle.std.specs.Prelude.{codes}
-use Rattle.status_pages.specs.Escapes.{escaped, escaped_octet, is_control, is_sign, shown_octet}
-use Rattle.status_pages.specs.Laws.{HasNoMarkup, IsPiece, read_from}
+use Rattle.status_pages.specs.Escapes.{escaped, escaped_behind, escaped_octet, is_control, is_sign, shown_octet}
+use Rattle.status_pages.specs.Laws.{HasNoMarkup, IsPiece, read_from, shown_behind}
+use Rattle.status_pages.specs.Turns.{digit_of, low_bits, turn_number, turns}
 
 -- what a test on numbers picks, from what it tells
 pick : {A : Type 0} (P : A → Type 0) (x y : A) (t : Bool) (b n : ℕ) → eqb b n ≡ t → (b ≡ n → P x) → (eqb b n ≡ false → P y) → P (cond t x y)
@@ -48,13 +49,45 @@ is_piece b =
     pick IsPiece (codes "&#39;") (shown_octet b ∷ []) (eqb b 39) b 39 refl (λ _. inl (inr (inr (inr (inr refl))))) (λ i.
     plain (shown_octet b) (shown_passes b (is_control b) (e, f, g, h, i)))))))
 
-all_pieces : (text : List ℕ) → AllByRecursion IsPiece (map escaped_octet text)
-all_pieces [] = tt
-all_pieces (b ∷ text) = (is_piece b, all_pieces text)
+-- a piece in front of a text without markup
+with_piece : {piece text : List ℕ} → IsPiece piece → HasNoMarkup text → HasNoMarkup (piece ++ text)
+with_piece {piece} {text} h rest = (piece ∷ rest.0, ap (λ t. piece ++ t) rest.1, (h, rest.2))
+
+-- a digit is none of the five signs
+digit_below : (n : ℕ) → nat_lt n 10 ≡ true → is_sign (48 + n) ≡ false
+digit_below n h = grind (arith, nat_tests, common_steps)
+
+digit_above : (n : ℕ) → nat_lt n 10 ≡ false → is_sign (55 + n) ≡ false
+digit_above n h = grind (arith, nat_tests, common_steps)
+
+plain_digit : (n : ℕ) (t : Bool) → nat_lt n 10 ≡ t → is_sign (cond t (48 + n) (55 + n)) ≡ false
+plain_digit n true h = digit_below n h
+plain_digit n false h = digit_above n h
+
+is_digit : (n : ℕ) → IsPiece (digit_of n ∷ [])
+is_digit n = inr (digit_of n, refl, plain_digit n (nat_lt n 10) refl)
+
+fixed : (b : ℕ) → is_sign b ≡ false → IsPiece (b ∷ [])
+fixed b h = inr (b, refl, h)
+
+-- a number in front of a text without markup
+with_number : (behind text : List ℕ) → HasNoMarkup text → HasNoMarkup (turn_number behind ++ text)
+with_number behind text h =
+    with_piece (fixed 91 refl) (with_piece (fixed 85 refl) (with_piece (fixed 43 refl) (with_piece (fixed 50 refl) (with_piece (fixed 48 refl)
+    (with_piece (is_digit (low_bits behind / 16)) (with_piece (is_digit (low_bits behind % 16)) (with_piece (fixed 93 refl) h)))))))
+
+no_markup : (passed : ℕ) (text : List ℕ) → HasNoMarkup (escaped_behind passed text)
+no_markup zero [] = ([], refl, tt)
+no_markup (suc n) [] = ([], refl, tt)
+no_markup (suc n) (b ∷ text) = no_markup n text
+no_markup zero (b ∷ text) = step (turns b text) (no_markup 2 text) (no_markup 0 text)
+  where
+    step : (t : Bool) → HasNoMarkup (escaped_behind 2 text) → HasNoMarkup (escaped_behind 0 text) → HasNoMarkup (cond t (turn_number text ++ escaped_behind 2 text) (escaped_octet b ++ escaped_behind 0 text))
+    step true behind rest = with_number text (escaped_behind 2 text) behind
+    step false behind rest = with_piece (is_piece b) rest
 
 pub escaped_has_no_markup : (text : List ℕ) → HasNoMarkup (escaped text)
-escaped_has_no_markup text =
-    (map escaped_octet text, sym (flat_map-map (λ (piece : List ℕ). piece) escaped_octet text), all_pieces text)
+escaped_has_no_markup text = no_markup 0 text
 
 -- a browser reads that octet at the front of these
 abbrev ReadsAs : ℕ → List ℕ → List ℕ → Type 0
@@ -88,6 +121,44 @@ reads_octet b rest =
     let passes : Passes (shown_octet b) = shown_passes b (is_control b) (e, f, g, h, i) in
     reads_plain b rest passes.0)))))
 
-pub escaped_is_read_back : (text : List ℕ) → read_from None (escaped text) ≡ map shown_octet text
-escaped_is_read_back [] = refl
-escaped_is_read_back (b ∷ text) = reads_octet b (flat_map escaped_octet text) ∙ ap (λ t. shown_octet b ∷ t) (escaped_is_read_back text)
+-- a browser reads an octet that isn't an ampersand as it stands
+reads_fixed : (b : ℕ) (rest : List ℕ) → eqb b 38 ≡ false → read_from None (b ∷ rest) ≡ b ∷ read_from None rest
+reads_fixed b rest e = rw e refl
+
+-- none of the five signs is no ampersand
+no_ampersand : (b : ℕ) → is_sign b ≡ false → eqb b 38 ≡ false
+no_ampersand b h = grind (arith, nat_tests, common_steps)
+
+reads_digit : (n : ℕ) (rest : List ℕ) → read_from None (digit_of n ∷ rest) ≡ digit_of n ∷ read_from None rest
+reads_digit n rest = reads_fixed (digit_of n) rest (no_ampersand (digit_of n) (plain_digit n (nat_lt n 10) refl))
+
+-- and so it reads a number
+reads_number : (behind rest : List ℕ) → read_from None (turn_number behind ++ rest) ≡ turn_number behind ++ read_from None rest
+reads_number behind rest =
+    ap (λ t. codes "[U+20" ++ t)
+        (reads_digit (low_bits behind / 16) (digit_of (low_bits behind % 16) ∷ 93 ∷ rest)
+        ∙ ap (λ t. digit_of (low_bits behind / 16) ∷ t) (reads_digit (low_bits behind % 16) (93 ∷ rest)))
+
+read_behind : (passed : ℕ) (text : List ℕ) → read_from None (escaped_behind passed text) ≡ shown_behind passed text
+read_behind zero [] = refl
+read_behind (suc n) [] = refl
+read_behind (suc n) (b ∷ text) = read_behind n text
+read_behind zero (b ∷ text) = step (turns b text) (read_behind 2 text) (read_behind 0 text)
+  where
+    step : (t : Bool) → read_from None (escaped_behind 2 text) ≡ shown_behind 2 text → read_from None (escaped_behind 0 text) ≡ shown_behind 0 text
+        → read_from None (cond t (turn_number text ++ escaped_behind 2 text) (escaped_octet b ++ escaped_behind 0 text)) ≡ cond t (turn_number text ++ shown_behind 2 text) (shown_octet b ∷ shown_behind 0 text)
+    step true behind rest = reads_number text (escaped_behind 2 text) ∙ ap (λ t. turn_number text ++ t) behind
+    step false behind rest = reads_octet b (escaped_behind 0 text) ∙ ap (λ t. shown_octet b ∷ t) rest
+
+pub escaped_is_read_back : (text : List ℕ) → read_from None (escaped text) ≡ shown_behind 0 text
+escaped_is_read_back text = read_behind 0 text
+
+-- one octet more is passed over
+pub passed_on : (passed b : ℕ) (rest : List ℕ) → eqb passed 0 ≡ false → escaped_behind passed (b ∷ rest) ≡ escaped_behind (passed - 1) rest
+passed_on zero b rest h = absurd (cc h)
+passed_on (suc n) b rest h = let e : suc n - 1 ≡ n = omega arith in rw e refl
+
+-- behind a text there is nothing
+pub behind_none : (passed : ℕ) → escaped_behind passed [] ≡ []
+behind_none zero = refl
+behind_none (suc n) = refl

@@ -1,7 +1,8 @@
 -- Text in a page of HTML: the five signs that have a meaning there stand as entities, and a control letter of one octet, but for the end
--- of a line, as a blank. Pages of a message are filled up with carriage returns (TS 23.038, 6.1.2.3.1), which a browser would show as empty lines.
-use Rattle.std.specs.Prelude.{ℕ, Bool, ◌==◌, ◌&&◌, ◌||◌, nat_lt, not, List, [], ◌∷◌, codes, if◌then◌else◌}
-use Rattle.std.specs.List.{flat_map}
+-- of a line, as a blank. Pages of a message are filled up with carriage returns (TS 23.038, 6.1.2.3.1), which a browser would show as empty
+-- lines. A letter that turns the direction of text stands as its number.
+use Rattle.std.specs.Prelude.{ℕ, zero, suc, Bool, ◌==◌, ◌&&◌, ◌||◌, nat_lt, not, List, [], ◌∷◌, ◌++◌, codes, if◌then◌else◌}
+use Rattle.status_pages.specs.Turns.{turn_number, turns}
 
 -- the sign is one of the five: ampersand, less, greater, quote and apostrophe
 abbrev pub is_sign : ℕ → Bool
@@ -25,6 +26,13 @@ escaped_octet b =
     else (if b == 39 then codes "&#39;"
     else (shown_octet b ∷ [])))))
 
+-- a text behind so many octets, which belong to a letter that stands as its number
+abbrev pub escaped_behind : ℕ → List ℕ → List ℕ
+escaped_behind passed [] = []
+escaped_behind (suc n) (b ∷ rest) = escaped_behind n rest
+escaped_behind zero (b ∷ rest) =
+    if turns b rest then turn_number rest ++ escaped_behind 2 rest else escaped_octet b ++ escaped_behind 0 rest
+
 -- a text, as it stands in a page
 abbrev pub escaped : List ℕ → List ℕ
-escaped text = flat_map escaped_octet text
+escaped text = escaped_behind 0 text

@@ -1,9 +1,11 @@
--- That an escaped text has no markup, and that a browser reads it as the text, with blanks for control letters of one octet.
-use Rattle.std.specs.Prelude.{◌≡◌, ◌⊎◌, ℕ, Bool, false, ◌==◌, List, [], ◌∷◌, ◌++◌, Option, Some, None, codes, if◌then◌else◌, map}
+-- That an escaped text has no markup and turns no direction, and that a browser reads it as the text, with blanks for control letters of one octet and the numbers of
+-- letters that turn the direction of text.
+use Rattle.std.specs.Prelude.{◌≡◌, ◌⊎◌, ℕ, zero, suc, Bool, false, ◌==◌, ◌||◌, List, [], ◌∷◌, ◌++◌, Option, Some, None, codes, if◌then◌else◌}
 use Rattle.std.specs.List.{AllByRecursion, flat_map}
 use Rattle.std.specs.Cmp.Lexicographic.{pointwise}
 use Rattle.std.specs.Prelude.{nat_eq}
 use Rattle.status_pages.specs.Escapes.{escaped, is_sign, shown_octet}
+use Rattle.status_pages.specs.Turns.{turn_number, turns}
 
 -- one of the five entities
 abbrev pub IsEntity : List ℕ → Type 0
@@ -45,10 +47,26 @@ read_from (Some name) (b ∷ rest) = if b == 59 then named name ++ read_from Non
 abbrev pub read_back : List ℕ → List ℕ
 read_back text = read_from None text
 
+-- a letter that turns the direction of text begins somewhere in the text
+abbrev pub has_turn : List ℕ → Bool
+has_turn [] = false
+has_turn (b ∷ rest) = turns b rest || has_turn rest
+
+-- an escaped text turns no direction
+abbrev pub EscapedTurnsNothing : Type 0
+EscapedTurnsNothing = (text : List ℕ) → has_turn (escaped text) ≡ false
+
 -- an escaped text has no markup
 abbrev pub EscapedHasNoMarkup : Type 0
 EscapedHasNoMarkup = (text : List ℕ) → HasNoMarkup (escaped text)
 
--- and is read as the text, with blanks for control letters of one octet
+-- a text behind so many octets, with blanks and numbers
+abbrev pub shown_behind : ℕ → List ℕ → List ℕ
+shown_behind passed [] = []
+shown_behind (suc n) (b ∷ rest) = shown_behind n rest
+shown_behind zero (b ∷ rest) =
+    if turns b rest then turn_number rest ++ shown_behind 2 rest else (shown_octet b ∷ shown_behind 0 rest)
+
+-- and is read as the text, with blanks for control letters of one octet and the numbers of letters that turn the direction of text
 abbrev pub EscapedIsReadBack : Type 0
-EscapedIsReadBack = (text : List ℕ) → read_back (escaped text) ≡ map shown_octet text
+EscapedIsReadBack = (text : List ℕ) → read_back (escaped text) ≡ shown_behind 0 text

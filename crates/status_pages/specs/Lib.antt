@@ -10,4 +10,5 @@ pub mod Pieces
 pub mod Ranks
 pub mod Standings
 pub mod Times
+pub mod Turns
 pub mod WarningParts

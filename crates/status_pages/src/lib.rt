@@ -24,6 +24,7 @@ mod sections;
 mod standing;
 mod standings;
 mod times;
+mod turns;
 mod verdict;
 mod verdicts;
 mod warnings;

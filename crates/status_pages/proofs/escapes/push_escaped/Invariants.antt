@@ -1,8 +1,10 @@
-use Rattle.std.proofs.Common.{◌≡◌, ◌++◌, drop}
-use Rattle.std.specs.List.{flat_map}
-use Rattle.status_pages.specs.Escapes.{escaped_octet}
+use Rattle.std.proofs.Common.{◌≡◌, ◌++◌, length}
+use Rattle.status_pages.specs.Escapes.{escaped, escaped_behind}
 use Rattle.status_pages.proofs.escapes.push_escaped.Given as goal
 
+abbrev pub decreases-loop-rest : goal.decreases-loop-rest
+decreases-loop-rest l = length l.rest
+
 -- what was appended so far, and what is ahead, are all of it
-abbrev pub invariant-loop-octet : goal.invariant-loop-octet
-invariant-loop-octet l = l.out.items ++ flat_map (escaped_octet) (drop l.octet-index l.text) ≡ l.initial.out.items ++ flat_map (escaped_octet) l.text
+abbrev pub invariant-loop-rest : goal.invariant-loop-rest
+invariant-loop-rest l = l.out.items ++ escaped_behind l.passed l.rest ≡ l.initial.out.items ++ escaped l.text
