@@ -22,7 +22,7 @@ const BEFORE: &[u8] = br##"<!DOCTYPE html>
 /// From the title on: how the header, the warnings and the BSCs look.
 const LOOKS: &[u8] = br##" - cell broadcast centre</title>
 <style>
-:root { color-scheme: dark; font: clamp(15px, 0.5vw + 11px, 22px)/1.35 system-ui, sans-serif; font-variant-numeric: tabular-nums; }
+:root { color-scheme: dark; font: clamp(15px, 0.5vw + 11px, 44px)/1.35 system-ui, sans-serif; font-variant-numeric: tabular-nums; }
 body { margin: 0; background: #0f1419; color: #f3f5f7; }
 h1, h2, h3, h4, p, ul { margin: 0; padding: 0; font-weight: inherit; }
 header { padding: 0.6rem 1rem; border-bottom: 0.25rem solid #f3f5f7; }
