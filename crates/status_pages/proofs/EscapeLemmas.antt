@@ -136,8 +136,8 @@ reads_digit n rest = reads_fixed (digit_of n) rest (no_ampersand (digit_of n) (p
 reads_number : (behind rest : List ℕ) → read_from None (turn_number behind ++ rest) ≡ turn_number behind ++ read_from None rest
 reads_number behind rest =
     ap (λ t. codes "[U+20" ++ t)
-        (reads_digit (low_bits behind / 16) (digit_of (low_bits behind % 16) ∷ 93 ∷ rest)
-        ∙ ap (λ t. digit_of (low_bits behind / 16) ∷ t) (reads_digit (low_bits behind % 16) (93 ∷ rest)))
+    (reads_digit (low_bits behind / 16) (digit_of (low_bits behind % 16) ∷ 93 ∷ rest)
+    ∙ ap (λ t. digit_of (low_bits behind / 16) ∷ t) (reads_digit (low_bits behind % 16) (93 ∷ rest)))
 
 read_behind : (passed : ℕ) (text : List ℕ) → read_from None (escaped_behind passed text) ≡ shown_behind passed text
 read_behind zero [] = refl

@@ -102,7 +102,7 @@ passes b text e h = either_none (turns b text) (has_turn text) (both_none (eqb b
 after_number : (behind text : List ℕ) → has_turn text ≡ false → has_turn (turn_number behind ++ text) ≡ false
 after_number behind text h =
     passes (digit_of (low_bits behind / 16)) (digit_of (low_bits behind % 16) ∷ 93 ∷ text) (digit_begins_none (low_bits behind / 16) (high_digit behind))
-        (passes (digit_of (low_bits behind % 16)) (93 ∷ text) (digit_begins_none (low_bits behind % 16) (low_digit behind)) h)
+    (passes (digit_of (low_bits behind % 16)) (93 ∷ text) (digit_begins_none (low_bits behind % 16) (low_digit behind)) h)
 
 no_turn : (passed : ℕ) (text : List ℕ) → has_turn (escaped_behind passed text) ≡ false
 no_turn zero [] = refl
