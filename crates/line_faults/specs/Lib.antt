@@ -1,0 +1,5 @@
+pub mod Faults
+pub mod Forms
+pub mod Nearest
+pub mod Strays
+pub mod Texts

@@ -1,0 +1,21 @@
+//! Why a line of an operator is bad: which word is at fault, by its place and its name, and what may stand there.
+//!
+//! Begin with `line_fault`, then `forms`: all lines of a server as a table, which `finding` compares with the line. What each fault says
+//! stands in `specs/Faults`, its text in `specs/Texts`. Which words are which line stands in `server_lines` and `console_text`.
+#![tactic(auto)]
+
+mod bounds;
+mod choosing;
+mod finding;
+mod forms;
+mod line_fault;
+mod nearest;
+mod quoting;
+mod stray;
+mod straying;
+mod texts;
+
+pub use finding::fault_of;
+pub use line_fault::LineFault;
+pub use stray::Stray;
+pub use texts::fault_text;
