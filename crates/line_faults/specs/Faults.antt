@@ -1,5 +1,5 @@
 -- Why a line is bad.
-use Rattle.std.specs.Prelude.{◌≡◌, ◌⊎◌, ℕ, ◌+◌, ◌-◌, ◌<◌, ◌≤◌, nat_le, Bool, true, false, ◌&&◌, ◌||◌, List, [], ◌∷◌, length, get_or, take, drop, Option, Some, None, MatchOption, bytes_eq, if◌then◌else◌}
+use Rattle.std.specs.Prelude.{◌≡◌, ◌⊎◌, ℕ, ◌+◌, ◌-◌, ◌<◌, ◌≤◌, nat_le, Bool, true, false, ◌&&◌, ◌||◌, List, [], ◌∷◌, length, get_or, take, drop, Option, MatchOption, bytes_eq, if◌then◌else◌}
 use Rattle.std.specs.List.{flat_map, list_all}
 use Rattle.console_text.specs.Numbers.{is_digit}
 use Rattle.console_text.specs.Words.{words_of}

@@ -1,6 +1,6 @@
 -- What is said of a line that is bad. The text is of printable ASCII, whatever was typed.
-use Rattle.std.specs.Prelude.{ℕ, ◌+◌, ◌/◌, ◌%◌, ◌-◌, ◌==◌, nat_le, nat_lt, Bool, false, ◌&&◌, not, List, [], ◌∷◌, ◌++◌, length, take, Option, Some, None, bytes_eq, codes, decimal, if◌then◌else◌}
-use Rattle.std.specs.List.{flat_map}
+use Rattle.std.specs.Prelude.{◌≡◌, ℕ, true, ◌+◌, ◌/◌, ◌%◌, ◌-◌, ◌==◌, nat_le, nat_lt, Bool, false, ◌&&◌, not, List, [], ◌∷◌, ◌++◌, ◌<◌, ◌^◌, length, take, Option, Some, None, bytes_eq, codes, decimal, if◌then◌else◌}
+use Rattle.std.specs.List.{flat_map, list_all}
 use Rattle.line_faults.specs.Forms.{bounds_of}
 use Rattle.line_faults.specs.declared.bounds.Bounds.{Bounds}
 use Rattle.line_faults.specs.declared.line_fault.LineFault.{LineFault}
@@ -8,9 +8,16 @@ use Rattle.line_faults.specs.declared.line_fault.LineFault.TheVariants as fault
 use Rattle.line_faults.specs.declared.stray.Stray.{Stray}
 use Rattle.line_faults.specs.declared.stray.Stray.TheVariants.{Tab, NoBreakSpace, ByteOrderMark}
 
+-- a letter of printable ASCII
+abbrev pub is_printable : ℕ → Bool
+is_printable x = nat_le 32 x && nat_le x 126
+
+abbrev pub IsPrintable : List ℕ → Type 0
+IsPrintable text = list_all is_printable text ≡ true
+
 -- an octet that is shown as it is: a printable letter of ASCII that isn't a backslash, which is 92
 abbrev pub is_plain : ℕ → Bool
-is_plain x = nat_le 32 x && nat_le x 126 && not (x == 92)
+is_plain x = is_printable x && not (x == 92)
 
 -- the lower-case hexadecimal digit of the four lowest bits
 abbrev pub hex_digit : ℕ → ℕ
@@ -70,3 +77,11 @@ fault_text (fault.OutOfRange position name word) = word_text position name word 
 fault_text (fault.Missing names) = missing_text names
 fault_text (fault.TooMany count) = codes "words too many: " ++ decimal count
 fault_text fault.NotHere = codes "only a console at the socket file takes this line"
+
+-- the numbers that it tells fit 64 bits
+abbrev pub IsCounted : LineFault → Type 0
+IsCounted (fault.Stray stray column) = column < 2 ^ 64
+IsCounted (fault.NotNumber position name word) = position < 2 ^ 64
+IsCounted (fault.OutOfRange position name word) = position < 2 ^ 64
+IsCounted (fault.TooMany count) = count < 2 ^ 64
+IsCounted other = Unit {0}

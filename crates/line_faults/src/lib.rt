@@ -8,6 +8,7 @@ mod bounds;
 mod choosing;
 mod finding;
 mod forms;
+mod laws;
 mod line_fault;
 mod nearest;
 mod quoting;
@@ -16,6 +17,7 @@ mod straying;
 mod texts;
 
 pub use finding::fault_of;
+pub use laws::texts_are_printable;
 pub use line_fault::LineFault;
 pub use stray::Stray;
 pub use texts::fault_text;
