@@ -1,0 +1,4 @@
+pub mod Lookups
+pub mod Nearness
+pub mod Table
+pub mod Texts
