@@ -1,5 +1,5 @@
 //! Tests of the libraries of octets and of texts, of the register, the areas, the book and the serial numbers, of the
-//! rules of links, and of the simulated BSC: what their contracts don't say.
+//! rules of links, of message identifiers, and of the simulated BSC: what their contracts don't say.
 //!
 //! A test demands an answer by `expect` and not by `?`, and lets a value of a large enum go by `drop`. Either is a call to
 //! the prover; an early return, or the end of such a value's block, is a case for each value that may be dropped there.
@@ -17,6 +17,8 @@ mod element_tests;
 mod first_line_tests;
 #[cfg(test)]
 mod frame_tests;
+#[cfg(test)]
+mod identifier_tests;
 #[cfg(test)]
 mod journal_file_tests;
 #[cfg(test)]
