@@ -9,6 +9,7 @@ use Rattle.console_text.specs.Words.{is_comment, words_of}
 use Rattle.console_text.specs.declared.response.Response.{Response}
 use Rattle.console_text.specs.declared.response.Response.TheVariants as response
 use Rattle.coverage_plan.specs.declared.edit.Edit.{Edit as EditOf}
+use Rattle.message_identifiers.specs.Texts.{unusual_text}
 use Rattle.office.specs.Desks.{DeskState}
 use Rattle.office.specs.Wishes.{IsUnwishedSomewhere, IsWishedSomewhere}
 use Rattle.server_lines.specs.ServerGrammar.{server_line_of}
@@ -39,8 +40,19 @@ pub record IsSayText (before : DeskState) (l : TextLine) (after : DeskState) (te
   pub answered : IsTextOf (IsSubmitAnswer before (event.Edit change) after) text
 
 -- or its text is bad
+abbrev pub IsBadTextAnswer : DeskState → TextLine → DeskState → List ℕ → Type 0
+IsBadTextAnswer before l after text = IsSaid l said.BadText × (text ≡ codes "bad text" ++ 10 ∷ []) × (after ≡ before)
+
+-- or its message identifier is unusual
+pub record IsUnusualAnswer (before : DeskState) (l : TextLine) (after : DeskState) (text : List ℕ) : Type 0 where
+  pub number : ℕ
+  pub unusual : IsSaid l (said.Unusual number)
+  pub is : text ≡ unusual_text number
+  pub unchanged : after ≡ before
+
+-- what a line with a text is answered
 abbrev pub IsSayAnswer : DeskState → TextLine → DeskState → List ℕ → Type 0
-IsSayAnswer before l after text = IsSayText before l after text ⊎ (IsSaid l said.BadText × (text ≡ codes "bad text" ++ 10 ∷ []) × (after ≡ before))
+IsSayAnswer before l after text = IsSayText before l after text ⊎ (IsBadTextAnswer before l after text ⊎ IsUnusualAnswer before l after text)
 
 -- the wish is kept, with the cell after which it asks, or the text is the cause for which it isn't
 pub record IsUnwished (b w : ℕ) (text : List ℕ) : Type 0 where
