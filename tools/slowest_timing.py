@@ -12,7 +12,7 @@ ENOUGH = 0.33
 ROUNDS = 50
 KEPT = "# cbc journal, network 00f110\n"
 BASE = "25000"
-MARK, BAD = "end-of-these-lines\n", b"bad line\n"
+MARK, BAD = "end-of-these-lines\n", b"bad line"
 
 
 def run(words, file, out):
@@ -42,13 +42,14 @@ class Running:
         hand = threading.Thread(target=self.hand, args=(text + MARK,))
         hand.start()
         found = bytearray()
-        while not (found == BAD or found.endswith(b"\n" + BAD)):
+        last = 0
+        while not (found.endswith(b"\n") and found.startswith(BAD, last := found.rfind(b"\n", 0, -1) + 1)):
             piece = os.read(self.process.stdout.fileno(), 1 << 20)
             if not piece:
                 sys.exit("the program ended: %s" % bytes(found[-200:]))
             found += piece
         hand.join()
-        return bytes(found[: -len(BAD)])
+        return bytes(found[:last])
 
     def hand(self, text):
         self.process.stdin.write(text.encode())

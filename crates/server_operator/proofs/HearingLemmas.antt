@@ -84,6 +84,6 @@ heard_request d d' m l (Err e) stays is = tt
 pub heard_line : {E : Type 0} (d d' : DeskState) (m : Bool) (octets first : List ℕ) (words : List (List ℕ)) (l : ServerLine) (o : Result Heard E) → is_comment first ≡ false
     → server_line_of octets (first ∷ words) ≡ Some l → IfOk o (IsHeard d m l d') → IfOk o (IsHeardIn d m octets (first ∷ words) d')
 heard_line d d' m octets first words l (Ok h) counts known is =
-    subst (λ b. MatchBool b (IsUnheard d d' h) (IsHeardIf d m (server_line_of octets (first ∷ words)) d' h)) (sym counts)
-    (subst (λ x. IsHeardIf d m x d' h) (sym known) is)
+    subst (λ b. MatchBool b (IsUnheard d d' h) (IsHeardIf d m octets (server_line_of octets (first ∷ words)) d' h)) (sym counts)
+    (subst (λ x. IsHeardIf d m octets x d' h) (sym known) is)
 heard_line d d' m octets first words l (Err e) counts known is = tt

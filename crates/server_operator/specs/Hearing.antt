@@ -7,8 +7,11 @@ use Rattle.centre_events.specs.declared.refusal.Refusal.TheVariants as refusal
 use Rattle.console_text.specs.Texts.{refused_text, response_text}
 use Rattle.console_text.specs.Words.{is_comment, words_of}
 use Rattle.console_text.specs.declared.response.Response.{Response}
-use Rattle.console_text.specs.declared.response.Response.TheVariants as response
 use Rattle.coverage_plan.specs.declared.edit.Edit.{Edit as EditOf}
+use Rattle.line_faults.specs.Faults.{IsFault}
+use Rattle.line_faults.specs.Texts.{fault_text}
+use Rattle.line_faults.specs.declared.line_fault.LineFault.{LineFault}
+use Rattle.line_faults.specs.declared.line_fault.LineFault.TheVariants as fault
 use Rattle.office.specs.Desks.{DeskState}
 use Rattle.office.specs.Wishes.{IsUnwishedSomewhere, IsWishedSomewhere}
 use Rattle.server_lines.specs.ServerGrammar.{server_line_of}
@@ -62,6 +65,16 @@ IsListed before l (heard.Listed text) = IsListAnswer before l text
 IsListed before l (heard.Answered text) = string_bytes text ≡ refused_text refusal.Memory
 IsListed before l (heard.Left leaving) = ⊥
 
+-- what is answered to a line that has the fault
+abbrev pub bad_line_text : LineFault → List ℕ
+bad_line_text f = codes "bad line: " ++ (fault_text f ++ 10 ∷ [])
+
+-- a line that is bad is answered why
+pub record IsBadAnswer (octets text : List ℕ) : Type 0 where
+  pub fault : LineFault
+  pub such : IsFault octets fault
+  pub is : text ≡ bad_line_text fault
+
 -- what comes of a line that ends nothing
 abbrev pub IsHeardAs : DeskState → ServerLine → DeskState → Heard → Type 0
 IsHeardAs before (line.Wish b w after_cell) after h = IsAnswered (IsWishAnswer b w after_cell) h × (after ≡ before)
@@ -72,7 +85,7 @@ IsHeardAs before (line.List l) after h = IsListed before l h × (after ≡ befor
 IsHeardAs before (line.Text l) after h = IsAnswered (IsSayAnswer before l after) h
 IsHeardAs before (line.CutLink b) after h = IsAnswered (IsTextOf (IsCutAnswer before b after)) h
 IsHeardAs before (line.Centre l) after h = IsAnswered (IsTextOf (IsAnswer before l after)) h
-IsHeardAs before other after h = IsAnswered (λ text. text ≡ response_text response.BadLine) h × (after ≡ before)
+IsHeardAs before other after h = IsAnswered (λ text. text ≡ bad_line_text fault.NotHere) h × (after ≡ before)
 
 -- the line ends the lines so
 abbrev pub IsLeft : DeskState → DeskState → Heard → Leaving → Type 0
@@ -83,9 +96,9 @@ abbrev pub IsHeard : DeskState → Bool → ServerLine → DeskState → Heard �
 IsHeard before may_watch l after h = MatchOption (leaving_of l may_watch) (IsHeardAs before l after h) (IsLeft before after h)
 
 -- what comes of octets that are that line, or a bad one
-abbrev pub IsHeardIf : DeskState → Bool → Option ServerLine → DeskState → Heard → Type 0
-IsHeardIf before may_watch None after h = IsAnswered (λ text. text ≡ response_text response.BadLine) h × (after ≡ before)
-IsHeardIf before may_watch (Some l) after h = IsHeard before may_watch l after h
+abbrev pub IsHeardIf : DeskState → Bool → List ℕ → Option ServerLine → DeskState → Heard → Type 0
+IsHeardIf before may_watch octets None after h = IsAnswered (IsBadAnswer octets) h × (after ≡ before)
+IsHeardIf before may_watch octets (Some l) after h = IsHeard before may_watch l after h
 
 -- nothing is answered
 abbrev pub IsUnheard : DeskState → DeskState → Heard → Type 0
@@ -95,7 +108,7 @@ IsUnheard before after h = IsAnswered (λ text. text ≡ []) h × (after ≡ bef
 abbrev pub IsHeardIn : DeskState → Bool → List ℕ → List (List ℕ) → DeskState → Heard → Type 0
 IsHeardIn before may_watch octets [] after h = IsUnheard before after h
 IsHeardIn before may_watch octets (first ∷ words) after h =
-    MatchBool (is_comment first) (IsUnheard before after h) (IsHeardIf before may_watch (server_line_of octets (first ∷ words)) after h)
+    MatchBool (is_comment first) (IsUnheard before after h) (IsHeardIf before may_watch octets (server_line_of octets (first ∷ words)) after h)
 
 -- what comes of a line of these octets
 abbrev pub IsHeardOf : DeskState → Bool → List ℕ → DeskState → Heard → Type 0

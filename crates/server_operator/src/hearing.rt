@@ -1,7 +1,7 @@
 //! What lines are answered, by their octets.
 
 ghost use Rattle.std.specs.Prelude.{◌≡◌, IfOk, string_bytes};
-ghost use Rattle.server_operator.specs.Hearing.{IsHeard, IsHeardAs, IsHeardIn, IsHeardOf, IsListed, IsSayAnswer, IsTextOf, IsWishAnswer};
+ghost use Rattle.server_operator.specs.Hearing.{IsBadAnswer, IsHeard, IsHeardAs, IsHeardIn, IsHeardOf, IsListed, IsSayAnswer, IsTextOf, IsWishAnswer, bad_line_text};
 ghost use Rattle.server_operator.specs.Responding.{IsAnswer};
 ghost use Rattle.server_operator.specs.Submitting.{IsCutAnswer};
 
@@ -22,13 +22,14 @@ use console_text::line::Line;
 use console_text::response::Response;
 use console_text::word::Word;
 use console_text::words::{is_comment, split_words};
+use line_faults::{LineFault, fault_of, fault_text};
 use office::desk::Desk;
 use server_lines::grammar::read_server_line;
 use server_lines::help::help_text;
 use server_lines::list_line::ListLine;
 use server_lines::server_line::ServerLine;
 use server_lines::text_line::TextLine;
-use std::alloc::AllocError;
+use std::alloc::{AllocError, Global};
 use std::sync::Wait;
 use std::sync::ledger::Ledger;
 use std::time::Clock;
@@ -112,6 +113,22 @@ fn console_line<L: Ledger, S: Server, R: Wait + Clock>(
     response_text(operator.alloc, response)
 }
 
+/// What is answered to a line that has the fault.
+fn bad_line_text(alloc: Global, fault: &LineFault) -> Result<String, AllocError>
+    ensures { IfOk result (λ text. string_bytes text ≡ bad_line_text fault.now) }
+{
+    let why = fault_text(alloc, fault)?;
+    format!(in alloc; "bad line: {why}\n")
+}
+
+/// Answers a line that is bad.
+fn bad_line(alloc: Global, line: &[u8]) -> Result<String, AllocError>
+    ensures { IfOk result (λ text. IsBadAnswer line.now (string_bytes text)) }
+{
+    let fault = fault_of(alloc, line)?;
+    bad_line_text(alloc, &fault)
+}
+
 /// What comes of a line that ends nothing.
 #[tactic(auto, using(crate::proofs::HearingLemmas::heard_list))]
 fn hear_request<L: Ledger, S: Server, R: Wait + Clock>(
@@ -134,7 +151,7 @@ fn hear_request<L: Ledger, S: Server, R: Wait + Clock>(
         ServerLine::CutLink(b) => Ok(Heard::Answered(cut_line(rt, operator, desk, b)?)),
         ServerLine::Centre(line) => Ok(Heard::Answered(console_line(rt, operator, desk, line)?)),
         ServerLine::Quit | ServerLine::Shutdown | ServerLine::Watch => {
-            Ok(Heard::Answered(response_text(operator.alloc, Response::BadLine)?))
+            Ok(Heard::Answered(bad_line_text(operator.alloc, &LineFault::NotHere)?))
         }
     }
 }
@@ -175,7 +192,7 @@ fn hear_words<L: Ledger, S: Server, R: Wait + Clock>(
     }
     match read_server_line(operator.alloc, line, words)? {
         Some(line) => hear_line(rt, operator, desk, line),
-        None => Ok(Heard::Answered(response_text(operator.alloc, Response::BadLine)?)),
+        None => Ok(Heard::Answered(bad_line(operator.alloc, line)?)),
     }
 }
 

@@ -12,7 +12,10 @@ const TWO: &[Step] = &[
     Sends(0, b"bsc add 1\n"),
     Reads(0, b"ok 1\n"),
     Sends(1, b"bsc add 2\r\nbsc add 2\nwhat\n"),
-    Reads(1, b"ok 2\nno 4 BscExists\nbad line\n"),
+    Reads(
+        1,
+        b"ok 2\nno 4 BscExists\nbad line: no line begins with 'what'; help lists all lines\n",
+    ),
     Sends(0, b"quit\n"),
     Reads(0, b"bye\n"),
     IsClosed(0),
@@ -96,7 +99,7 @@ const TOGETHER: &[Step] = &[
     ),
     Reads(
         0,
-        b"ok 1\nok 2\nno 4 BscExists\nbad line\nok 3\nno 16 NoSuchWarning\nok 4\n",
+        b"ok 1\nok 2\nno 4 BscExists\nbad line: no line begins with 'what'; help lists all lines\nok 3\nno 16 NoSuchWarning\nok 4\n",
     ),
     Sends(0, b"d 5\nquit\nbsc add 6\n"),
     Reads(0, b"ok 5\nbye\n"),

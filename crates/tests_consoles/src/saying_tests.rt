@@ -85,14 +85,14 @@ resay 2 0 30 Test
 
 /// What the operator is answered.
 const REFUSALS: &[u8] = b"\
-bad line
-bad line
-bad line
-bad line
-bad line
-bad line
-bad line
-bad line
+bad line: there is no text
+bad line: there is no text
+bad line: word 2, IDENTIFIER: '65536' is not 0 to 65535
+bad line: word 3, SCOPE: '4' is not 0 to 3
+bad line: word 4, CATEGORY: '3' is not 0 to 2
+bad line: word 5, PERIOD: '65536' is not 0 to 65535
+bad line: there is no text
+bad line: word 4, PERIOD: 'x' is no number from 0 to 65535
 bad text
 bad text
 bad text

@@ -38,7 +38,10 @@ fn standard_input_ends_consoles(rt: HostRuntime) {
 const QUITS: Play = Play {
     words: &["--console", "consoles-of-another"],
     acts: &[
-        Act::Types("watch\n", "bad line\n"),
+        Act::Types(
+            "watch\n",
+            "bad line: only a console at the socket file takes this line\n",
+        ),
         Act::Asks("consoles-of-another", "bsc add 1\n", "ok 1\n"),
         Act::Lines("quit\n", 0),
     ],

@@ -14,10 +14,13 @@ const CUTS: Play = Play {
     words: &["--links", "2"],
     acts: &[
         Act::Types("cut 1\n", "no 3 NoSuchBsc\n"),
-        Act::Types("cut 0\n", "bad line\n"),
-        Act::Types("cut\n", "bad line\n"),
-        Act::Types("cut 1 1\n", "bad line\n"),
-        Act::Types("cut 65536\n", "bad line\n"),
+        Act::Types("cut 0\n", "bad line: word 2, BSC: '0' is not 1 to 65535\n"),
+        Act::Types("cut\n", "bad line: missing: BSC\n"),
+        Act::Types("cut 1 1\n", "bad line: words too many: 1\n"),
+        Act::Types(
+            "cut 65536\n",
+            "bad line: word 2, BSC: '65536' is not 1 to 65535\n",
+        ),
         Act::Types("bsc add 1\n", "ok 1\n"),
         Act::Types("cut 1\n", "no 30 LinkNotUp\n"),
         Act::Connects(1, 1),

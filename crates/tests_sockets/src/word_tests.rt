@@ -80,7 +80,10 @@ const FOLDED: Play = Play {
     words: &["--journal", "6"],
     acts: &[
         Act::Lines(WARNING, 5),
-        Act::Types("fly\n", "bad line\n"),
+        Act::Types(
+            "fly\n",
+            "bad line: no line begins with 'fly'; help lists all lines\n",
+        ),
         Act::Connects(1, 1),
         Act::Stops(0),
         Act::IsClosed(0),
