@@ -1,8 +1,10 @@
 -- The lines that have a text. It is the rest of the line from its first octet that is no space, spaces as typed.
-use Rattle.std.specs.Prelude.{ℕ, List, [], ◌∷◌, Option, Some, None, bytes_eq, codes, if◌then◌else◌}
+use Rattle.std.specs.Prelude.{ℕ, ◌==◌, true, false, List, [], ◌∷◌, Option, Some, None, bytes_eq, codes, option_map, if◌then◌else◌}
 use Rattle.console_text.specs.Grammar.{category_of, if_some, names_of, scope_of, two_octets_of, warning_of}
+use Rattle.message_identifiers.specs.Lookups.{number_of}
 use Rattle.server_lines.specs.Rest.{behind_words}
 use Rattle.server_lines.specs.declared.said_heading.SaidHeading.{SaidHeading}
+use Rattle.server_lines.specs.declared.said_identifier.SaidIdentifier.{SaidIdentifier}
 use Rattle.server_lines.specs.declared.text_heading.TextHeading.{TextHeading}
 use Rattle.server_lines.specs.declared.text_line.TextLine.{TextLine}
 use Rattle.server_lines.specs.declared.text_line.TextLine.TheVariants.{Say, Resay}
@@ -14,13 +16,40 @@ text_heading_of category period =
     if_some (two_octets_of period) (λ p.
     Some (record { category = c; period = p })))
 
+-- a number that is meant as it is typed
+abbrev pub meant : ℕ → SaidIdentifier
+meant n = record { number = n; is_meant = true }
+
+-- a number that may be a slip
+abbrev pub unmeant : ℕ → SaidIdentifier
+unmeant n = record { number = n; is_meant = false }
+
+-- the number for which the word stands, or that it is
+abbrev pub or_number : List ℕ → Option ℕ → Option SaidIdentifier
+or_number word (Some n) = Some (unmeant n)
+or_number word None = option_map unmeant (two_octets_of word)
+
+-- what stands behind `!`, which is 33, where the word begins with it
+abbrev pub behind_mark : List ℕ → Option (List ℕ)
+behind_mark [] = None
+behind_mark (x ∷ xs) = if x == 33 then Some xs else None
+
+-- the number behind `!`, if there is one
+abbrev pub meant_or_named : List ℕ → Option (List ℕ) → Option SaidIdentifier
+meant_or_named word (Some number) = option_map meant (two_octets_of number)
+meant_or_named word None = or_number word (number_of word)
+
+-- M: a number behind `!`; else a name, or a number
+abbrev pub said_identifier_of : List ℕ → Option SaidIdentifier
+said_identifier_of word = meant_or_named word (behind_mark word)
+
 -- M, SCOPE, CAT and PERIOD of `say`
 abbrev pub said_heading_of : List ℕ → List ℕ → List ℕ → List ℕ → Option SaidHeading
 said_heading_of message_id scope category period =
-    if_some (two_octets_of message_id) (λ m.
+    if_some (said_identifier_of message_id) (λ i.
     if_some (scope_of scope) (λ s.
     if_some (text_heading_of category period) (λ h.
-    Some (record { message_id = m; scope = s; content = h }))))
+    Some (record { identifier = i; scope = s; content = h }))))
 
 -- M, SCOPE, CAT, PERIOD, AREAS and TEXT of `say`
 abbrev pub say : List ℕ → List ℕ → List ℕ → List ℕ → List ℕ → List ℕ → Option TextLine

@@ -12,6 +12,7 @@ mod laws;
 pub mod list_line;
 mod rest;
 pub mod said_heading;
+pub mod said_identifier;
 pub mod server_line;
 mod text_grammar;
 pub mod text_heading;

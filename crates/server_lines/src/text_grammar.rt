@@ -1,16 +1,20 @@
 //! The lines that have a text, by their words.
 
-ghost use Rattle.std.specs.Prelude.{◌≡◌, IfOk};
-ghost use Rattle.server_lines.specs.TextGrammar.{resay, resay_of, said_heading_of, say, say_of, text_heading_of, text_line_of};
+ghost use Rattle.std.specs.Prelude.{◌≡◌, IfOk, MatchOption, option_map};
+ghost use Rattle.console_text.specs.Grammar.{two_octets_of};
+ghost use Rattle.message_identifiers.specs.Lookups.{number_of};
+ghost use Rattle.server_lines.specs.TextGrammar.{behind_mark, meant, or_number, resay, resay_of, said_heading_of, said_identifier_of, say, say_of, text_heading_of, text_line_of, unmeant};
 
 use crate::rest::behind_words;
 use crate::said_heading::SaidHeading;
+use crate::said_identifier::SaidIdentifier;
 use crate::text_heading::TextHeading;
 use crate::text_line::TextLine;
 use common::Octets;
 use console_text::grammar::{read_category, read_names, read_scope, read_two_octets, read_warning};
 use console_text::word::Word;
 use console_text::words::is_word;
+use message_identifiers::number_of;
 use std::alloc::{AllocError, Global};
 
 /// CAT and PERIOD.
@@ -23,6 +27,59 @@ fn read_heading(category: &[u8], period: &[u8]) -> Option<TextHeading>
     })
 }
 
+/// A number that is meant as it is typed.
+fn read_meant(number: &[u8]) -> Option<SaidIdentifier>
+    ensures { result ≡ option_map meant (two_octets_of number.now) }
+{
+    Some(SaidIdentifier {
+        number: read_two_octets(number)?,
+        is_meant: true,
+    })
+}
+
+/// A number.
+fn read_unmeant(number: &[u8]) -> Option<SaidIdentifier>
+    ensures { result ≡ option_map unmeant (two_octets_of number.now) }
+{
+    Some(SaidIdentifier {
+        number: read_two_octets(number)?,
+        is_meant: false,
+    })
+}
+
+/// A name or a number.
+fn read_named(word: &[u8]) -> Option<SaidIdentifier>
+    ensures { result ≡ or_number word.now (number_of word.now) }
+{
+    match number_of(word) {
+        Some(number) => Some(SaidIdentifier {
+            number,
+            is_meant: false,
+        }),
+        None => read_unmeant(word),
+    }
+}
+
+/// What stands behind `!`, where the word begins with it.
+fn behind_mark(word: &[u8]) -> Option<&[u8]>
+    ensures { MatchOption result (behind_mark word.now ≡ None) (λ rest. behind_mark word.now ≡ Some rest.now) }
+{
+    let [first, rest @ ..] = word else {
+        return None;
+    };
+    if *first == b'!' { Some(rest) } else { None }
+}
+
+/// M of `say`: a name, a number, or a number behind `!`.
+fn read_said_identifier(word: &[u8]) -> Option<SaidIdentifier>
+    ensures { result ≡ said_identifier_of word.now }
+{
+    match behind_mark(word) {
+        Some(number) => read_meant(number),
+        None => read_named(word),
+    }
+}
+
 /// M, SCOPE, CAT and PERIOD of `say`.
 fn read_said_heading(
     message_id: &[u8],
@@ -33,7 +90,7 @@ fn read_said_heading(
     ensures { result ≡ said_heading_of message_id.now scope.now category.now period.now }
 {
     Some(SaidHeading {
-        message_id: read_two_octets(message_id)?,
+        identifier: read_said_identifier(message_id)?,
         scope: read_scope(scope)?,
         content: read_heading(category, period)?,
     })

@@ -7,6 +7,7 @@ use Rattle.console_text.specs.Texts.{refused_text, response_text}
 use Rattle.console_text.specs.declared.response.Response.{Response}
 use Rattle.coverage_plan.specs.declared.edit.Edit.{Edit as EditOf}
 use Rattle.lists_text.specs.ListTexts.{status_text}
+use Rattle.message_identifiers.specs.Texts.{unusual_text}
 use Rattle.office.specs.Desks.{DeskState}
 use Rattle.office.specs.Offices.{IsWrongDesk}
 use Rattle.office.specs.Statuses.{IsStatusSomewhere}
@@ -42,8 +43,14 @@ said_text bytes d d' l change r (Err e) asks answer is = tt
 -- or it is bad
 pub bad_text : {S E : Type 0} (bytes : S → List ℕ) (d d' : DeskState) (l : TextLine) (o : Result S E) → IsSaid l said.BadText → d' ≡ d → IfOk o (λ s. bytes s ≡ codes "bad text" ++ 10 ∷ [])
     → IfOk o (λ s. IsSayAnswer d l d' (bytes s))
-bad_text bytes d d' l (Ok s) bad same is = inr (bad, is, same)
+bad_text bytes d d' l (Ok s) bad same is = inr (inl (bad, is, same))
 bad_text bytes d d' l (Err e) bad same is = tt
+
+-- or its identifier is unusual
+pub unusual_said : {S E : Type 0} (bytes : S → List ℕ) (d d' : DeskState) (l : TextLine) (n : ℕ) (o : Result S E) → IsSaid l (said.Unusual n) → d' ≡ d → IfOk o (λ s. bytes s ≡ unusual_text n)
+    → IfOk o (λ s. IsSayAnswer d l d' (bytes s))
+unusual_said bytes d d' l n (Ok s) unusual same is = inr (inr (record { number = n; unusual = unusual; is = is; unchanged = same }))
+unusual_said bytes d d' l n (Err e) unusual same is = tt
 
 -- a wish is kept
 pub wished_text : {S E : Type 0} (bytes : S → List ℕ) (b w : ℕ) (after : Option Cell) (o : Result S E) → IsWishedSomewhere b w after → IfOk o (λ s. bytes s ≡ codes "wished" ++ 10 ∷ []) → IfOk o (λ s. IsWishAnswer b w after (bytes s))

@@ -12,6 +12,7 @@ use Rattle.line_faults.specs.Faults.{IsFault}
 use Rattle.line_faults.specs.Texts.{fault_text}
 use Rattle.line_faults.specs.declared.line_fault.LineFault.{LineFault}
 use Rattle.line_faults.specs.declared.line_fault.LineFault.TheVariants as fault
+use Rattle.message_identifiers.specs.Texts.{unusual_text}
 use Rattle.office.specs.Desks.{DeskState}
 use Rattle.office.specs.Wishes.{IsUnwishedSomewhere, IsWishedSomewhere}
 use Rattle.server_lines.specs.ServerGrammar.{server_line_of}
@@ -42,8 +43,19 @@ pub record IsSayText (before : DeskState) (l : TextLine) (after : DeskState) (te
   pub answered : IsTextOf (IsSubmitAnswer before (event.Edit change) after) text
 
 -- or its text is bad
+abbrev pub IsBadTextAnswer : DeskState → TextLine → DeskState → List ℕ → Type 0
+IsBadTextAnswer before l after text = IsSaid l said.BadText × (text ≡ codes "bad text" ++ 10 ∷ []) × (after ≡ before)
+
+-- or its message identifier is unusual
+pub record IsUnusualAnswer (before : DeskState) (l : TextLine) (after : DeskState) (text : List ℕ) : Type 0 where
+  pub number : ℕ
+  pub unusual : IsSaid l (said.Unusual number)
+  pub is : text ≡ unusual_text number
+  pub unchanged : after ≡ before
+
+-- what a line with a text is answered
 abbrev pub IsSayAnswer : DeskState → TextLine → DeskState → List ℕ → Type 0
-IsSayAnswer before l after text = IsSayText before l after text ⊎ (IsSaid l said.BadText × (text ≡ codes "bad text" ++ 10 ∷ []) × (after ≡ before))
+IsSayAnswer before l after text = IsSayText before l after text ⊎ (IsBadTextAnswer before l after text ⊎ IsUnusualAnswer before l after text)
 
 -- the wish is kept, with the cell after which it asks, or the text is the cause for which it isn't
 pub record IsUnwished (b w : ℕ) (text : List ℕ) : Type 0 where

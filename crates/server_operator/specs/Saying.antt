@@ -1,13 +1,16 @@
--- The edit that a line with a text asks for.
-use Rattle.std.specs.Prelude.{◌≡◌, ◌⊎◌, ℕ, Bool, true, false, ◌==◌, ◌≤◌, List, [], ◌∷◌, length, Option, Some, None, MatchOption, if◌then◌else◌}
+-- What a line with a text comes to: the edit that it asks for, or why it asks for none.
+use Rattle.std.specs.Prelude.{◌≡◌, ◌⊎◌, ℕ, Bool, true, false, ◌==◌, ◌≤◌, ◌&&◌, not, List, [], ◌∷◌, length, Option, Some, None, MatchBool, MatchOption, if◌then◌else◌}
 use Rattle.std.specs.List.{AllByRecursion}
 use Rattle.std.specs.Option.{option_map, IfSome}
 use Rattle.std.specs.Str.{chars}
 use Rattle.coverage_plan.specs.declared.edit.Edit.{Edit as EditOf}
 use Rattle.coverage_plan.specs.declared.edit.Edit.TheVariants as edit
+use Rattle.message_identifiers.specs.Lookups.{usage_of}
+use Rattle.message_identifiers.specs.Nearness.{is_text}
 use Rattle.message_text.specs.Reading.{read_text}
 use Rattle.message_text.specs.Texts.{HasRoom, IsPlain, NeedsMore, coding_for, dcs_of}
 use Rattle.server_lines.specs.declared.said_heading.SaidHeading.{SaidHeading}
+use Rattle.server_lines.specs.declared.said_identifier.SaidIdentifier.{SaidIdentifier}
 use Rattle.server_lines.specs.declared.text_heading.TextHeading.{TextHeading}
 use Rattle.server_lines.specs.declared.text_line.TextLine.{TextLine}
 use Rattle.server_lines.specs.declared.text_line.TextLine.TheVariants as line
@@ -71,7 +74,7 @@ IsSaidContent h typed (content.Emergency c) = ⊥
 -- a warning is issued
 abbrev pub IsSaidIssue : SaidHeading → List (List ℕ) → List ℕ → EditOf → Type 0
 IsSaidIssue h areas typed (edit.Issue notice names) =
-    (notice.message_id ≡ h.message_id) × (notice.scope ≡ h.scope) × (names ≡ areas) × IsSaidContent h.content typed notice.content
+    (notice.message_id ≡ h.identifier.number) × (notice.scope ≡ h.scope) × (names ≡ areas) × IsSaidContent h.content typed notice.content
 IsSaidIssue h areas typed other = ⊥
 
 -- a warning is updated
@@ -83,8 +86,17 @@ IsSaidUpdate warning h typed other = ⊥
 abbrev pub IsSaidBy : (EditOf → Type 0) → List ℕ → Said → Type 0
 IsSaidBy IsEdit typed (said.Edit change) = IsEdit change
 IsSaidBy IsEdit typed said.BadText = IsBadText typed
+IsSaidBy IsEdit typed (said.Unusual n) = ⊥
 
--- what the line comes to
+-- what a line comes to that issues a warning
+abbrev pub IsIssueSaid : SaidHeading → List (List ℕ) → List ℕ → Said → Type 0
+IsIssueSaid h areas typed found = IsSaidBy (IsSaidIssue h areas typed) typed found
+
+-- the identifier is none of warnings with a text, and isn't meant as it is typed
+abbrev pub is_unusual : SaidIdentifier → Bool
+is_unusual i = not i.is_meant && not (is_text (usage_of i.number))
+
+-- what the line comes to: nothing is issued with an unusual identifier, whatever its text is
 abbrev pub IsSaid : TextLine → Said → Type 0
-IsSaid (line.Say h areas typed) found = IsSaidBy (IsSaidIssue h areas typed) typed found
+IsSaid (line.Say h areas typed) found = MatchBool (is_unusual h.identifier) (found ≡ said.Unusual h.identifier.number) (IsIssueSaid h areas typed found)
 IsSaid (line.Resay warning h typed) found = IsSaidBy (IsSaidUpdate warning h typed) typed found

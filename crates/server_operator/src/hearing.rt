@@ -23,6 +23,7 @@ use console_text::response::Response;
 use console_text::word::Word;
 use console_text::words::{is_comment, split_words};
 use line_faults::{LineFault, fault_of, fault_text};
+use message_identifiers::unusual_text;
 use office::desk::Desk;
 use server_lines::grammar::read_server_line;
 use server_lines::help::help_text;
@@ -71,7 +72,7 @@ fn hear_list<L: Ledger, S: Server, R: Wait + Clock>(
 }
 
 /// Answers a line that has a text.
-#[tactic(auto, using(crate::proofs::HearingLemmas::said_text, crate::proofs::HearingLemmas::bad_text))]
+#[tactic(auto, using(crate::proofs::HearingLemmas::said_text, crate::proofs::HearingLemmas::bad_text, crate::proofs::HearingLemmas::unusual_said))]
 fn say<L: Ledger, S: Server, R: Wait + Clock>(
     rt: &R,
     operator: &Operator<'_, L, S>,
@@ -83,6 +84,7 @@ fn say<L: Ledger, S: Server, R: Wait + Clock>(
     match said_of(operator.alloc, line)? {
         Said::Edit(change) => response_text(operator.alloc, edit(rt, operator, desk, change)),
         Said::BadText => String::from_str(operator.alloc, "bad text\n"),
+        Said::Unusual(number) => unusual_text(operator.alloc, number),
     }
 }
 

@@ -8,4 +8,6 @@ pub(crate) enum Said {
     Edit(Edit),
     /// No page can have its text.
     BadText,
+    /// Its message identifier is none of warnings with a text, and not meant as it is typed.
+    Unusual(u16),
 }

@@ -2,13 +2,17 @@
 
 ghost use Rattle.std.specs.Prelude.{◌≡◌, IfOk, MatchOption};
 ghost use Rattle.message_text.specs.Texts.{IsPlain};
-ghost use Rattle.server_operator.specs.Saying.{ArePages, ArePagesTyped, IsBadText, IsSaid, IsSaidContent};
+ghost use Rattle.server_operator.specs.Saying.{ArePages, ArePagesTyped, IsBadText, IsIssueSaid, IsSaid, IsSaidContent, is_unusual};
 
 use crate::said::Said;
 use crate::typing::typed_text;
-use common::Octets;
+use common::{Names, Octets};
 use coverage_plan::Edit;
+use message_identifiers::usage::Usage;
+use message_identifiers::usage_of;
 use message_text::{TextFault, TextPages, pages_of};
+use server_lines::said_heading::SaidHeading;
+use server_lines::said_identifier::SaidIdentifier;
 use server_lines::text_heading::TextHeading;
 use server_lines::text_line::TextLine;
 use std::alloc::{AllocError, Global};
@@ -58,6 +62,41 @@ fn typed_content(
     }
 }
 
+/// Whether a warning with a text isn't issued with the identifier, since it may be a slip.
+fn is_unusual(identifier: SaidIdentifier) -> bool
+    ensures { result ≡ is_unusual identifier }
+{
+    if identifier.is_meant {
+        return false;
+    }
+    match usage_of(identifier.number) {
+        Usage::Text => false,
+        Usage::Emergency | Usage::Unassigned => true,
+    }
+}
+
+/// What a line comes to that issues a warning with a text, whose identifier is usual or meant.
+fn issue_said(
+    alloc: Global,
+    heading: SaidHeading,
+    areas: Names,
+    typed: &Octets,
+) -> Result<Said, AllocError>
+    ensures { IfOk result (IsIssueSaid heading areas typed.now) }
+{
+    match typed_content(alloc, heading.content, typed)? {
+        Some(content) => Ok(Said::Edit(Edit::Issue(
+            Notice {
+                message_id: heading.identifier.number,
+                scope: heading.scope,
+                content,
+            },
+            areas,
+        ))),
+        None => Ok(Said::BadText),
+    }
+}
+
 /// What the line comes to.
 pub(crate) fn said_of(alloc: Global, line: TextLine) -> Result<Said, AllocError>
     ensures { IfOk result (IsSaid line) }
@@ -67,17 +106,12 @@ pub(crate) fn said_of(alloc: Global, line: TextLine) -> Result<Said, AllocError>
             heading,
             areas,
             text,
-        } => match typed_content(alloc, heading.content, &text)? {
-            Some(content) => Ok(Said::Edit(Edit::Issue(
-                Notice {
-                    message_id: heading.message_id,
-                    scope: heading.scope,
-                    content,
-                },
-                areas,
-            ))),
-            None => Ok(Said::BadText),
-        },
+        } => {
+            if is_unusual(heading.identifier) {
+                return Ok(Said::Unusual(heading.identifier.number));
+            }
+            issue_said(alloc, heading, areas, &text)
+        }
         TextLine::Resay {
             warning,
             heading,

@@ -56,6 +56,69 @@ text say 4373 3 0 30 Coast Test
 pages 1
 ";
 
+/// Identifiers that may be slips: a digit too few and one too many, those of emergency warnings, and others, the first of them before
+/// a text and an area that are refused too. Then such identifiers that are meant, names, and words that are neither.
+const IDENTIFIERS: &str = "\
+say 437 3 0 30 Coast Flood
+say 43700 3 0 30 Coast Flood
+say 4352 3 0 30 Coast Flood
+say tsunami 3 0 30 Coast Flood
+say 4358 3 0 30 Coast Flood
+say 1 3 0 30 Hill a\\tb
+say 4369 3 0 30 Coast Flood
+say 50000 3 0 30 Coast Flood
+say !437 3 0 30 Coast Flood
+warning 2
+say test 3 0 30 Coast Flood
+warning 3
+say alert-2-language 3 0 30 Coast Flood
+warning 4
+say !4352 3 0 30 Coast Flood
+warning 5
+say Test 3 0 30 Coast Flood
+say !test 3 0 30 Coast Flood
+say ! 3 0 30 Coast Flood
+say !65536 3 0 30 Coast Flood
+say !!437 3 0 30 Coast Flood
+";
+
+/// What the operator is answered. Six entries were there before, and what may be a slip enters nothing.
+const ASKED_ABOUT: &str = "\
+unusual identifier 437: nearest 4370, 4371, 4372; to say it all the same type !437
+unusual identifier 43700: nearest 4370; to say it all the same type !43700
+unusual identifier 4352: earthquake, which alert sends; to say it all the same type !4352
+unusual identifier 4353: tsunami, which alert sends; to say it all the same type !4353
+unusual identifier 4358: an emergency, which alert sends; to say it all the same type !4358
+unusual identifier 1: nearest 4370; to say it all the same type !1
+unusual identifier 4369: nearest 4379, 4389, 4399; to say it all the same type !4369
+unusual identifier 50000: nearest 4399; to say it all the same type !50000
+ok 7 warning 2 serial C000
+warning 2 437 0x01B5 C000 active cbs areas Coast awaited 1 onair 0 failed 0 left 0 broadcasts 0
+dcs 15 category 0 period 30
+text Flood
+pages 1
+ok 8 warning 3 serial C000
+warning 3 4380 0x111C C000 active cbs areas Coast awaited 1 onair 0 failed 0 left 0 broadcasts 0
+dcs 15 category 0 period 30
+text Flood
+pages 1
+ok 9 warning 4 serial C000
+warning 4 4384 0x1120 C000 active cbs areas Coast awaited 1 onair 0 failed 0 left 0 broadcasts 0
+dcs 15 category 0 period 30
+text Flood
+pages 1
+ok 10 warning 5 serial C000
+warning 5 4352 0x1100 C000 active cbs areas Coast awaited 1 onair 0 failed 0 left 0 broadcasts 0
+dcs 15 category 0 period 30
+text Flood
+pages 1
+bad line
+bad line
+bad line
+bad line
+bad line
+";
+
 /// Lines that are refused: words that are no line; a text that is Latin-1, that ends within a letter, that has a letter outside of
 /// UCS2, a control letter, a carriage return, a backslash before another letter or at the end; and what the centre refuses.
 const BAD_LINES: &[u8] = b"\
@@ -127,6 +190,21 @@ fn refuses<L: Ledger, R: Wait + Clock + Abort>(rt: &R, alloc: Global, blank: Bla
     is_answered(rt, alloc, &office, BAD_LINES, REFUSALS);
 }
 
+fn asks_about_slips<L: Ledger, R: Wait + Clock + Abort>(rt: &R, alloc: Global, blank: Blank)
+    requires name { blank.name ≡ L.name }
+    requires parts { blank.parts ≡ L.parts }
+    requires desks { blank.parts ≡ 1025 }
+{
+    let (office, _) = linked::<L, R>(rt, alloc, blank, 1000);
+    is_answered(
+        rt,
+        alloc,
+        &office,
+        IDENTIFIERS.as_bytes(),
+        ASKED_ABOUT.as_bytes(),
+    );
+}
+
 /// A text of so many times the letter is answered so.
 fn is_answered_of<L: Ledger, R: Wait + Clock + Abort>(
     rt: &R,
@@ -187,6 +265,11 @@ fn texts_are_said(rt: HostRuntime) {
 #[test]
 fn lines_are_refused(rt: HostRuntime) {
     refuses::<Brand, _>(&rt, rt.alloc(), Blank::new(1025));
+}
+
+#[test]
+fn identifiers_that_may_be_slips_are_asked_about(rt: HostRuntime) {
+    asks_about_slips::<Brand, _>(&rt, rt.alloc(), Blank::new(1025));
 }
 
 #[test]
