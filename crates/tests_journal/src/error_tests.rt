@@ -8,8 +8,8 @@ use std::io::Write;
 use std::sync::{Mutex, Wait};
 use std::time::Clock;
 
-/// How many lines wait at most, and two more.
-const LINES: u32 = 10_002;
+/// How many lines wait at most.
+const MOST_LINES: u32 = 10_000;
 
 /// No line may ever be told.
 struct Never;
@@ -60,10 +60,17 @@ fn no_line_is_said_before_it_may_be_told(rt: HostRuntime) {
 
 #[test]
 fn lines_that_are_left_out_are_counted(rt: HostRuntime) {
-    let said = said_of(&rt, rt.alloc(), &AtOnce, LINES);
-    yes(
-        &rt,
-        said.ends_with(b"cbc: 2 lines were left out\n"),
-        "how many were left out stands behind the others",
-    );
+    for (more, last) in [
+        (0, b"cbc: an event was entered\n".as_slice()),
+        (1, b"cbc: 1 lines were left out\n".as_slice()),
+        (2, b"cbc: 2 lines were left out\n".as_slice()),
+    ] {
+        let lines = MOST_LINES.saturating_add(more);
+        let said = said_of(&rt, rt.alloc(), &AtOnce, lines);
+        yes(
+            &rt,
+            said.ends_with(last),
+            "how many were left out stands behind the others",
+        );
+    }
 }

@@ -44,6 +44,9 @@ const FULL: &str = "/dev/full";
 /// How often it is tried to open it.
 const MOST_TRIES: u32 = 10_000;
 
+/// What is said at once where the file fails.
+const FAILED: &[u8] = b"cbc: journal fault: nothing more is answered\n";
+
 /// What is said at the end.
 const LAST: &[u8] = b"cbc: journal fault\n";
 
@@ -323,22 +326,27 @@ fn fails_to_keep<L: Ledger, E: Write + Drop, R: Wait + Clock + Abort>(
     (shared.is_closing(rt), may_be_told)
 }
 
-/// The same over an office.
+/// The same over an office, and what is said.
 fn ends_by_the_file<L: Ledger, R: Wait + Clock + Abort>(
     rt: &R,
     alloc: Global,
     blank: Blank,
     file: DiskFile,
-) -> (bool, bool)
+) -> (bool, bool, Vec<u8>)
     requires name { blank.name ≡ L.name }
     requires parts { blank.parts ≡ L.parts }
     requires desks { blank.parts ≡ 1025 }
 {
     let office: Office<L> = Office::new(alloc, blank, NETWORK, LIMIT);
-    let shared = shared_of(alloc, office, Vec::new(alloc));
-    let found = fails_to_keep(rt, &shared, file);
+    let octets = Mutex::new(Vec::new(alloc));
+    let said = Said {
+        rt,
+        octets: &octets,
+    };
+    let shared = shared_of(alloc, office, said);
+    let (ends, may_be_told) = fails_to_keep(rt, &shared, file);
     drop(shared);
-    found
+    (ends, may_be_told, octets.into_inner())
 }
 
 /// The same at an office of its own.
@@ -346,14 +354,15 @@ fn found_at_a_full_file<R: Wait + Clock + Abort>(
     rt: &R,
     alloc: Global,
     file: DiskFile,
-) -> (bool, bool) {
+) -> (bool, bool, Vec<u8>) {
     ends_by_the_file::<Brand, R>(rt, alloc, Blank::new(1025), file)
 }
 
 #[test]
 fn a_file_that_fails_ends_the_links(rt: HostRuntime) {
     let file = full_file(&rt);
-    let (ends, may_be_told) = found_at_a_full_file(&rt, rt.alloc(), file);
+    let (ends, may_be_told, said) = found_at_a_full_file(&rt, rt.alloc(), file);
     yes(&rt, ends, "the server ends");
     yes(&rt, !may_be_told, "the last entry is never told of");
+    same(&rt, said.as_slice(), FAILED, "what is said");
 }

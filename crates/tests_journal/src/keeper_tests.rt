@@ -1,5 +1,5 @@
-//! What no clause says of the thread that keeps a journal: who waits goes on once the file is synced, folds stand at their places,
-//! and a file that fails ends it.
+//! What no clause says of the thread that keeps a journal: who waits goes on once the file is synced, each of several, folds stand at
+//! their places, and a file that fails ends it.
 
 use crate::checks::{same, yes};
 use crate::given_journal::{Journal, Refused};
@@ -10,6 +10,7 @@ use std::process::Abort;
 use std::sync::Wait;
 use std::thread;
 use std::thread::Threads;
+use std::time::{Clock, Duration};
 
 type Answer = Result<u64, Refused>;
 
@@ -207,5 +208,87 @@ fn a_fold_of_a_file_that_failed_is_not_answered(rt: HostRuntime) {
         "the thread ends by the file",
     );
     same(&rt, answer, None, "the fold isn't answered");
+    drop(keeper);
+}
+
+/// Waits some time for somebody else to wait, and then for the first entry, behind which the second is entered.
+fn waits_and_enters<R: Wait + Clock>(rt: &R, journal: &Journal, kept: &Kept<Answer>) -> bool {
+    thread::sleep(rt, Duration::from_millis(100));
+    let is_kept = kept.wait_kept(rt, 1).is_some();
+    is_kept && journal.enter(rt, b"up 1").is_some()
+}
+
+/// Enters the first entry once both wait.
+fn enters_later<R: Wait + Clock>(rt: &R, journal: &Journal) {
+    thread::sleep(rt, Duration::from_millis(300));
+    let _ = journal.enter(rt, b"bsc add 1");
+}
+
+/// One waits for the second entry, and another, who came later, for the first. The answer is whether both go on.
+fn two_wait<R: Wait + Clock + Threads + Sync>(
+    rt: &R,
+    journal: &Journal,
+    kept: &Kept<Answer>,
+) -> (bool, bool) {
+    let (second, (first, ())) = thread::join(
+        rt,
+        move || kept.wait_kept(rt, 2).is_some(),
+        move || {
+            thread::join(
+                rt,
+                move || waits_and_enters(rt, journal, kept),
+                move || enters_later(rt, journal),
+            )
+        },
+    );
+    end(rt, journal, kept);
+    (first, second)
+}
+
+#[test]
+fn each_that_waits_goes_on(rt: HostRuntime) {
+    let alloc = rt.alloc();
+    let (journal, kept) = (Journal::new(alloc, 0), Kept::new());
+    let (shared, waiting) = (&journal, &kept);
+    let host = &rt;
+    let given = keeper(alloc, 1000, 1000);
+    let ((result, keeper), both) = thread::join(
+        &rt,
+        move || keeps(host, shared, waiting, given),
+        move || two_wait(host, shared, waiting),
+    );
+    same(&rt, result, Ok(()), "the thread ends");
+    same(&rt, both, (true, true), "both entries are kept");
+    drop(keeper);
+}
+
+/// The thread is interrupted for nothing, and some time later an entry comes. The answer is whether that is kept.
+fn interrupts_and_enters<R: Wait + Clock>(
+    rt: &R,
+    journal: &Journal,
+    kept: &Kept<Answer>,
+) -> bool {
+    journal.interrupt(rt);
+    thread::sleep(rt, Duration::from_millis(300));
+    let is_kept = enter(rt, journal, kept, b"bsc add 1");
+    end(rt, journal, kept);
+    is_kept
+}
+
+/// A file that makes twenty syncs is enough for that: the thread waits between.
+#[test]
+fn a_thread_that_was_interrupted_waits_again(rt: HostRuntime) {
+    let alloc = rt.alloc();
+    let (journal, kept) = (Journal::new(alloc, 0), Kept::new());
+    let (shared, waiting) = (&journal, &kept);
+    let host = &rt;
+    let given = keeper(alloc, 1000, 20);
+    let ((result, keeper), is_kept) = thread::join(
+        &rt,
+        move || keeps(host, shared, waiting, given),
+        move || interrupts_and_enters(host, shared, waiting),
+    );
+    same(&rt, result, Ok(()), "the thread ends");
+    yes(&rt, is_kept, "the entry is kept");
     drop(keeper);
 }

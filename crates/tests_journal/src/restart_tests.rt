@@ -67,6 +67,8 @@ fn lines_in(octets: &[u8]) -> u64 {
 struct Found {
     result: Result<Loaded, LoadFault>,
     entries: u64,
+    /// How many receipts the desk has of them.
+    receipts: usize,
     /// What the loss of its links adds to the file.
     added: Vec<u8>,
 }
@@ -76,18 +78,19 @@ fn reads<L: Ledger, R: Wait + Abort>(
     start: &Start<'_, L, R>,
     desk: &mut Desk<L>,
     octets: &[u8],
-) -> Result<(Result<Loaded, LoadFault>, u64, MemoryFile), KeepFault> {
+) -> Result<(Result<Loaded, LoadFault>, (u64, usize), MemoryFile), KeepFault> {
     let mut entering = Entering::begin(&*start, desk).expect(start.rt, "a fresh office");
     let result = entering.enter_file(HEADING, &mut FromRead::new(octets));
     drop(entering);
     let entries = start.office.position(start.rt);
+    let receipts = desk.receipts().len();
     let mut writing = Writing::new(start.alloc, entries);
     let mut file = MemoryFile::new(Vec::new(start.alloc), 1_000_000, 1_000);
     if result.is_ok() {
         start.lose_links(desk, &mut writing)?;
     }
     match writing.keep(&mut file) {
-        Ok(_) => Ok((result, entries, file)),
+        Ok(_) => Ok((result, (entries, receipts), file)),
         Err(_) => Err(KeepFault::File),
     }
 }
@@ -114,7 +117,10 @@ fn starts<L: Ledger, R: Wait + Abort>(
         office: &office,
         every,
     };
-    let (result, entries, file) = reads(&start, &mut desk, octets).expect(rt, "its lines are put");
+    let (result, (entries, receipts), file) = reads(&start, &mut desk, octets).expect(
+        rt,
+        "its lines are put",
+    );
     drop(start);
     drop(desk);
     drop(office);
@@ -122,6 +128,7 @@ fn starts<L: Ledger, R: Wait + Abort>(
     Found {
         result,
         entries,
+        receipts,
         added,
     }
 }
@@ -162,6 +169,11 @@ fn a_start_enters_all_lines_and_loses_the_links(rt: HostRuntime) {
             "all is read",
         );
         same(&rt, found.entries, 20, "all is entered");
+        yes(
+            &rt,
+            found.receipts as u64 <= every,
+            "the desk keeps no receipts of folded entries",
+        );
         yes(
             &rt,
             found.added.starts_with(first),
@@ -279,8 +291,9 @@ send 1
 #[test]
 fn what_is_no_event_stops_the_start(rt: HostRuntime) {
     let alloc = rt.alloc();
-    let rows: [&[u8]; 9] = [
+    let rows: [&[u8]; 10] = [
         b"quit",
+        b"send 2",
         b"board 1",
         b" # a comment that doesn't begin the line",
         b"",
