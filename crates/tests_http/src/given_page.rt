@@ -3,7 +3,7 @@
 use crate::answer_tests::{Row, asks};
 use crate::checks::yes;
 use crate::given_pictures::{Given, GivenPictures};
-use crate::visitor_tests::{ask_at_once, ask_often, send_more, stay};
+use crate::visitor_tests::{ask_at_once, ask_often, rest, send_more, stay};
 use server_http::{HttpPort, serve_http};
 use std::alloc::Global;
 use std::net::{Net, SocketAddr, TcpListener, TcpStream};
@@ -27,6 +27,8 @@ pub(crate) enum Client {
     SendsMore,
     /// Many stay.
     Stays,
+    /// It stays, and asks nothing.
+    Rests,
 }
 
 /// The client does so.
@@ -42,6 +44,7 @@ fn plays<R: Clock + Abort + Net<Stream = TcpStream, Listener = TcpListener>>(
         Client::AsksAtOnce => ask_at_once(rt, alloc, address),
         Client::SendsMore => send_more(rt, alloc, address),
         Client::Stays => stay(rt, alloc, address),
+        Client::Rests => rest(rt, address),
     }
 }
 

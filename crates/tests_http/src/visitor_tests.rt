@@ -115,6 +115,23 @@ pub(crate) fn send_more<R: Clock + Abort + Net<Stream = TcpStream, Listener = Tc
     yes(rt, is_taken, "what comes is read for a while");
 }
 
+/// One stays for a while, and asks nothing.
+pub(crate) fn rest<R: Clock + Abort + Net<Stream = TcpStream, Listener = TcpListener>>(
+    rt: &R,
+    address: &SocketAddr,
+) {
+    let stream = connected(rt, address);
+    thread::sleep(rt, Duration::from_millis(1_500));
+    drop(stream);
+}
+
+/// A picture is taken at most where the connection ends.
+#[test]
+fn one_who_asks_nothing_has_no_pictures_taken(rt: HostRuntime) {
+    let count = served(&rt, rt.alloc(), Given::Whole, Client::Rests);
+    yes(&rt, count <= 1, "nobody asked");
+}
+
 #[test]
 fn many_requests_take_few_pictures(rt: HostRuntime) {
     let begin = rt.monotonic().expect(&rt, "a clock");
