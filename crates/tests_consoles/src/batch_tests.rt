@@ -90,6 +90,20 @@ const TOGETHER: &[Row] = &[
         answers: b"ok 1\nok 2\nok 3\n",
     },
     Row {
+        at: "a signal in the middle of a line",
+        given: Given {
+            comes: &[
+                Comes::Piece(b"bsc add 1"),
+                Comes::Signal,
+                Comes::Piece(b"2\n"),
+            ],
+            ..USUAL
+        },
+        ended: Ok(Leaving::Ended),
+        seen: 111_234_1,
+        answers: b"ok 1\n",
+    },
+    Row {
         at: "a comment alone",
         given: Given {
             comes: &[Comes::Piece(b"# a comment\n")],

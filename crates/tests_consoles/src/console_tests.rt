@@ -2,7 +2,7 @@
 
 use crate::checks::same;
 use crate::given_consoles::entries_of;
-use crate::scripts::Step::{Closes, Connect, IsClosed, Pause, Reads, Sends};
+use crate::scripts::Step::{Closes, Connect, IsClosed, Pause, Reads, Sends, SendsMore};
 use crate::scripts::{Script, Step};
 
 /// Two consoles beside each other: `quit` ends one of them, and whoever sees that end can connect again, to its desk.
@@ -118,13 +118,23 @@ const TOGETHER: &[Step] = &[
     ),
 ];
 
+/// What stands behind `quit` is let go, and the console sees its end, also where it reads late.
+const BEHIND: &[Step] = &[
+    Connect(0),
+    SendsMore(0, b"bsc add 1\nquit\n"),
+    Pause,
+    Reads(0, b"ok 1\nbye\n"),
+    IsClosed(0),
+];
+
 #[test]
 fn consoles_are_answered(rt: HostRuntime) {
-    let scripts: [(&'static [Step], u64, &str); 5] = [
+    let scripts: [(&'static [Step], u64, &str); 6] = [
         (TWO, 4, "two consoles"),
         (EACH, 2, "each line"),
         (TOGETHER, 9, "lines that are sent together"),
         (FEW, 2, "more than there may be"),
+        (BEHIND, 1, "more behind the end"),
         (SHUTDOWN, 1, "the end of the program"),
     ];
     for (steps, entries, at) in scripts {

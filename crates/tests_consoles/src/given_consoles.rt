@@ -83,7 +83,7 @@ fn plays_on<L: Ledger, R: Wait + Clock + Net + Abort>(
 }
 
 /// Serves the consoles, and takes their connections, until they are closed.
-fn serves_all<'x, L: Ledger + Send + Sync, R: Wait + Threads + Clock + Sync>(
+pub(crate) fn serves_all<'x, L: Ledger + Send + Sync, R: Wait + Threads + Clock + Sync>(
     rt: &'x R,
     alloc: Global,
     office: &'x Office<L>,

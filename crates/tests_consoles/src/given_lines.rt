@@ -40,6 +40,8 @@ pub(crate) enum Comes<'a> {
     Piece(&'a [u8]),
     /// Nothing, for a while.
     Nothing,
+    /// A signal interrupts the read.
+    Signal,
     /// The input is at fault.
     Fault,
 }
@@ -98,6 +100,7 @@ impl BufRead for Input<'_> {
                 match *first {
                     Comes::Piece(piece) => self.rest = piece,
                     Comes::Nothing => return Err(Error::from(ErrorKind::WouldBlock)),
+                    Comes::Signal => return Err(Error::from(ErrorKind::Interrupted)),
                     Comes::Fault => return Err(Error::from(ErrorKind::UnexpectedEof)),
                 }
             }

@@ -10,8 +10,8 @@ use journal_keeper::{Kept, KeptUpTo, wait_kept};
 use server_consoles::Program;
 use server_operator::{Air, Server};
 use std::alloc::{AllocError, Global};
-use std::sync::Wait;
 use std::sync::atomic::{AtomicBool, Ordering};
+use std::sync::{Condvar, Mutex, Wait};
 use std::time::Clock;
 use warning_book::WarningId;
 
@@ -27,13 +27,32 @@ pub(crate) fn kept_without_file<R: Wait>(rt: &R, place: u64) -> Option<KeptUpTo>
 #[derive(Drop)]
 pub(crate) struct GivenProgram {
     is_ending: AtomicBool,
+    /// It was asked whether entries are kept.
+    is_asked: AtomicBool,
+    /// Whoever asks that waits.
+    holds: Mutex<bool>,
+    changed: Condvar,
 }
 
 impl GivenProgram {
     pub(crate) fn new() -> GivenProgram {
         GivenProgram {
             is_ending: AtomicBool::new(false),
+            is_asked: AtomicBool::new(false),
+            holds: Mutex::new(false),
+            changed: Condvar::new(),
         }
+    }
+
+    /// Has whoever asks whether entries are kept wait, or go on.
+    pub(crate) fn hold<R: Wait>(&self, rt: &R, holds: bool) {
+        *self.holds.lock(rt) = holds;
+        self.changed.notify_all();
+    }
+
+    /// Whether it was asked whether entries are kept.
+    pub(crate) fn is_asked(&self) -> bool {
+        self.is_asked.load(Ordering::SeqCst)
     }
 }
 
@@ -43,6 +62,9 @@ impl Server for GivenProgram {
     fn answered<R: Wait + Clock>(&self, _rt: &R) {}
 
     fn kept<R: Wait>(&self, rt: &R, place: u64) -> Option<KeptUpTo> {
+        self.is_asked.store(true, Ordering::SeqCst);
+        let holds = self.holds.lock(rt);
+        drop(self.changed.wait_while(rt, holds, |holds| *holds));
         kept_without_file(rt, place)
     }
 

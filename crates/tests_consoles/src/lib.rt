@@ -16,6 +16,8 @@ mod downs_tests;
 #[cfg(test)]
 mod end_tests;
 #[cfg(test)]
+mod following_tests;
+#[cfg(test)]
 mod given_consoles;
 #[cfg(test)]
 mod given_lines;

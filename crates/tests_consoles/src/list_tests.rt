@@ -31,7 +31,12 @@ use warning_book::WarningId;
 struct Alone {
     /// Since when each warning is over, which then is silent in a cell.
     over: Option<u64>,
+    /// Since when a RESET is out to the last BSC that there may be.
+    reset: Option<u64>,
 }
+
+/// The number of that BSC.
+const LAST_BSC: u16 = 256;
 
 /// The cells in which a warning is silent.
 fn silent_rows(alloc: Global, bscs: &[BscId]) -> Result<Vec<SilentRow>, AllocError> {
@@ -86,8 +91,12 @@ impl Server for Alone {
         Err(AllocError)
     }
 
-    fn reset_since<R: Wait>(&self, _rt: &R, _b: BscId) -> Option<u64> {
-        None
+    fn reset_since<R: Wait>(&self, _rt: &R, b: BscId) -> Option<u64> {
+        if b.number() == LAST_BSC {
+            self.reset
+        } else {
+            None
+        }
     }
 
     fn has_two_periods<R: Wait + Clock>(
@@ -191,16 +200,15 @@ failures 2
 status entries 14 folded 0 limit 1000 whole bscs 2 up 1 cells 3 areas 1 warnings 1 active 1
 ";
 
-/// The lines are answered so, where each warning is over since then.
+/// The lines are answered so by that server.
 fn is_answered_beside<L: Ledger, R: Wait + Clock + Abort>(
     rt: &R,
     alloc: Global,
     office: &Office<L>,
-    over: Option<u64>,
+    server: Alone,
     lines: &[u8],
     answers: &[u8],
 ) {
-    let server = Alone { over };
     let terminal = Mutex::new(Terminal {
         reader: lines,
         writer: Vec::new(alloc),
@@ -225,7 +233,11 @@ pub(crate) fn is_answered<L: Ledger, R: Wait + Clock + Abort>(
     lines: &[u8],
     answers: &[u8],
 ) {
-    is_answered_beside(rt, alloc, office, None, lines, answers);
+    let server = Alone {
+        over: None,
+        reset: None,
+    };
+    is_answered_beside(rt, alloc, office, server, lines, answers);
 }
 
 fn lists<L: Ledger, R: Wait + Clock + Abort>(rt: &R, alloc: Global, blank: Blank)
@@ -238,10 +250,45 @@ fn lists<L: Ledger, R: Wait + Clock + Abort>(rt: &R, alloc: Global, blank: Blank
     enters(rt, &office, &mut desk, Event::Send(bsc(rt, 1), LINK));
     reports(rt, alloc, &office, &mut desk, 0x03, &REFUSED);
     reports(rt, alloc, &office, &mut desk, 0x14, &DOWN);
-    is_answered_beside(rt, alloc, &office, Some(43_263), LINES, ANSWERS);
+    let server = Alone {
+        over: Some(43_263),
+        reset: None,
+    };
+    is_answered_beside(rt, alloc, &office, server, LINES, ANSWERS);
 }
 
 #[test]
 fn each_list_is_printed(rt: HostRuntime) {
     lists::<Brand, _>(&rt, rt.alloc(), Blank::new(1025));
+}
+
+/// What is answered of the last BSC that there may be, over whose link a RESET is out.
+const RESET_ANSWERS: &[u8] = b"\
+bsc 1 cells 1 link up 6 flight none pending 1
+bsc 256 cells 0 link reset since 12:01:03 flight none pending 0
+bscs 2
+link 1 up 6 pending 1
+link 256 reset since 12:01:03 pending 0
+links 2 up 1
+";
+
+fn lists_resets<L: Ledger, R: Wait + Clock + Abort>(rt: &R, alloc: Global, blank: Blank)
+    requires name { blank.name ≡ L.name }
+    requires parts { blank.parts ≡ L.parts }
+    requires desks { blank.parts ≡ 1025 }
+{
+    let (office, mut desk) = linked::<L, R>(rt, alloc, blank, 1000);
+    let last = bsc(rt, LAST_BSC);
+    edits(rt, &office, &mut desk, Edit::AddBsc(last));
+    enters(rt, &office, &mut desk, Event::LinkUp(last));
+    let server = Alone {
+        over: None,
+        reset: Some(43_263),
+    };
+    is_answered_beside(rt, alloc, &office, server, b"bscs\nlinks\n", RESET_ANSWERS);
+}
+
+#[test]
+fn a_reset_of_the_last_bsc_is_shown(rt: HostRuntime) {
+    lists_resets::<Brand, _>(&rt, rt.alloc(), Blank::new(1025));
 }

@@ -17,6 +17,9 @@ const MOST_TIME: u64 = 50;
 /// How often it is tried to get a console.
 const MOST_TRIES: u32 = 100_000;
 
+/// More octets than a console reads at once.
+const MORE: usize = 16_384;
+
 /// The most octets of an answer.
 const MOST_OCTETS: usize = 200;
 
@@ -27,6 +30,8 @@ pub(crate) enum Step {
     Sends(usize, &'static [u8]),
     /// The same octets so often.
     SendsOften(usize, &'static [u8], u32),
+    /// These octets, and more behind them than are read at once.
+    SendsMore(usize, &'static [u8]),
     /// These octets come next.
     Reads(usize, &'static [u8]),
     /// The other end has closed it.
@@ -100,6 +105,14 @@ fn sends<R: Abort>(rt: &R, mut stream: &UnixStream, octets: &[u8]) {
     stream.write_all(octets).expect(rt, "it is sent");
 }
 
+/// Sends these octets and more behind them.
+fn sends_more<R: Abort>(rt: &R, stream: &UnixStream, octets: &[u8]) {
+    let mut all = [b'#'; MORE];
+    let front = all.get_mut(..octets.len()).expect(rt, "few octets");
+    front.copy_from_slice(octets);
+    sends(rt, stream, &all);
+}
+
 /// Connects, and sends these octets. The answer is the connection, where it is answered so.
 fn tries<R: Net + Abort>(rt: &R, path: &str, octets: &[u8], wanted: &[u8]) -> Option<UnixStream> {
     let mut stream = connects(rt, path);
@@ -144,6 +157,9 @@ fn takes<R: Net + Clock + Abort>(
             for _ in 0..times {
                 sends(rt, stream_of(rt, streams, number), octets);
             }
+        }
+        Step::SendsMore(number, octets) => {
+            sends_more(rt, stream_of(rt, streams, number), octets);
         }
         Step::Reads(number, octets) => reads(rt, stream_of(rt, streams, number), octets),
         Step::IsClosed(number) => is_closed(rt, stream_of(rt, streams, number)),
