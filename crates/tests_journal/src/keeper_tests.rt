@@ -263,11 +263,7 @@ fn each_that_waits_goes_on(rt: HostRuntime) {
 }
 
 /// The thread is interrupted for nothing, and some time later an entry comes. The answer is whether that is kept.
-fn interrupts_and_enters<R: Wait + Clock>(
-    rt: &R,
-    journal: &Journal,
-    kept: &Kept<Answer>,
-) -> bool {
+fn interrupts_and_enters<R: Wait + Clock>(rt: &R, journal: &Journal, kept: &Kept<Answer>) -> bool {
     journal.interrupt(rt);
     thread::sleep(rt, Duration::from_millis(300));
     let is_kept = enter(rt, journal, kept, b"bsc add 1");
