@@ -108,8 +108,9 @@ fn sends<R: Abort>(rt: &R, mut stream: &UnixStream, octets: &[u8]) {
 /// Sends these octets and more behind them.
 fn sends_more<R: Abort>(rt: &R, stream: &UnixStream, octets: &[u8]) {
     let mut all = [b'#'; MORE];
-    let front = all.get_mut(..octets.len()).expect(rt, "few octets");
-    front.copy_from_slice(octets);
+    for (place, octet) in all.iter_mut().zip(octets.iter()) {
+        *place = *octet;
+    }
     sends(rt, stream, &all);
 }
 
