@@ -14,8 +14,10 @@ const ALIVE_COMPLETE: &[u8] = b"\x17\x00\x00\x00";
 /// An ERROR INDICATION: the message isn't recognised.
 const ERROR: &[u8] = b"\x15\x00\x00\x02\x0b\x04";
 
-/// The type of a WRITE-REPLACE.
+/// The type of a WRITE-REPLACE, and of a KILL.
 const WRITE: u8 = 0x01;
+
+const KILL: u8 = 0x04;
 
 /// A WRITE-REPLACE COMPLETE of message 4370 with serial number C000 in cell 100 7, without data.
 const WRITTEN: &[u8] =
@@ -100,7 +102,7 @@ const ANSWERS_OTHERWISE: Play = Play {
     ..USUAL
 };
 
-/// A KEEP ALIVE of a BSC's own is answered.
+/// A KEEP ALIVE of a BSC's own is answered, once: what it sends then is answered by no other.
 #[test]
 fn a_keep_alive_of_a_bsc_is_answered(rt: HostRuntime) {
     played(&rt, rt.alloc(), &IS_ANSWERED);
@@ -109,13 +111,19 @@ fn a_keep_alive_of_a_bsc_is_answered(rt: HostRuntime) {
 const IS_ANSWERED: Play = Play {
     words: &["--keep-alive-seconds", "120"],
     acts: &[
-        Act::Types("bsc add 1\n", "ok 1\n"),
+        Act::Lines(ONE_CELL, 4),
         Act::Connects(1, 1),
         Act::Sends(0, OWN_ALIVE, 1),
         Act::Gets(0, ALIVE_COMPLETE),
+        Act::Sends(0, ALIVE_COMPLETE, 1),
+        Act::Types(ISSUE, "ok 6 warning 1 serial C000\n"),
+        Act::Answers(0, WRITE, WRITTEN),
+        Act::Repeats("board 1\n", ON_AIR),
+        Act::Lines("stop 1\n", 1),
+        Act::Answers(0, KILL, b""),
         Act::Lines("quit\n", 0),
     ],
-    answers: Wanted::Settled("5"),
+    answers: Wanted::Settled("20"),
     ..USUAL
 };
 

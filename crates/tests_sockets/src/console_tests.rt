@@ -93,3 +93,20 @@ const NO_FOLDER: Play = Play {
     said: Wanted::HasNot("cbc: listen fault\n", "consoles: no-folder"),
     ..USUAL
 };
+
+/// A console that follows the journal doesn't hold up the end of the program.
+#[test]
+fn a_console_that_follows_is_ended(rt: HostRuntime) {
+    played(&rt, rt.alloc(), &FOLLOWS);
+}
+
+const FOLLOWS: Play = Play {
+    words: &["--console", "consoles-that-follow"],
+    acts: &[
+        Act::Types("bsc add 1\n", "ok 1\n"),
+        Act::Follows("consoles-that-follow"),
+        Act::Lines("quit\n", 0),
+    ],
+    answers: Wanted::Bounds("settled ", "\n"),
+    ..USUAL
+};

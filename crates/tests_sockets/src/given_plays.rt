@@ -1,19 +1,15 @@
 //! What the tests share: a run of the server, with what its operator and its peers do.
 
-ghost use Rattle.std.specs.Prelude.{◌≤◌};
-
 use crate::checks::{same, yes};
+use crate::given_options::{Spent, asking, limited, spent_limits};
 use crate::given_texts::{Wanted, has, has_time, plain};
+use crate::metrics_page::shows;
 use crate::peer::{PATIENCE, connected, fails, gets, is_closed, next_frame, sends};
-use crate::socket_console::is_told;
+use crate::socket_console::{follows, is_told};
 use crate::text_files::TextFiles;
-use centre_events::network::Network;
-use console_text::options::{FOLD, MOST_ENTRIES};
-use link_rules::Cost;
 use server::{serve, serve_words};
 use server_errors::{line_text, utc_text};
 use server_options::{PeersSource, ServeOptions};
-use server_ports::LinkLimits;
 use std::alloc::Global;
 use std::fs::{File, Files};
 use std::io::{BufRead, BufReader, Read, Write};
@@ -53,6 +49,10 @@ pub(crate) enum Act {
     Ends,
     /// A console at that socket file is typed the line. Its answer is this.
     Asks(&'static str, &'static str, &'static str),
+    /// A console at that socket file follows the journal from now on, to which BSC 1 is ordered again until an entry comes to it.
+    Follows(&'static str),
+    /// The figures of the page come to have these lines at once.
+    Shows(&'static [&'static str]),
     /// A line with this text comes on standard error. The lines before it are passed over.
     Says(&'static str),
     /// The next line on standard error says that so many ports are listened on.
@@ -69,6 +69,8 @@ pub(crate) enum Act {
     Gets(usize, &'static [u8]),
     /// The next frame that the peer gets is of this type. It sends the octets.
     Answers(usize, u8, &'static [u8]),
+    /// The same so often.
+    AnswersOften(usize, u8, &'static [u8], u32),
     /// The next frame comes to the peer no sooner than so many milliseconds after the time noted.
     WaitsFor(usize, u64),
     /// The server closes the peer's connection.
@@ -87,24 +89,6 @@ pub(crate) enum Base {
     /// The words name it.
     Named,
 }
-
-/// What each port has had already.
-#[derive(Clone, Copy)]
-pub(crate) struct Spent {
-    pub(crate) reports: u32,
-    pub(crate) connections: u32,
-    /// How many octets its reports had, and how many lines they cost.
-    pub(crate) octets: u64,
-    pub(crate) lines: u64,
-}
-
-/// Nothing.
-pub(crate) const UNSPENT: Spent = Spent {
-    reports: 0,
-    connections: 0,
-    octets: 0,
-    lines: 0,
-};
 
 /// A run of the server, and how it ends.
 #[derive(Clone, Copy)]
@@ -150,6 +134,8 @@ struct Stage {
     answers: BufReader<UnixStream>,
     said: BufReader<UnixStream>,
     peers: Vec<TcpStream>,
+    /// The consoles that follow the journal.
+    consoles: Vec<UnixStream>,
 }
 
 /// The next line that the reader gives.
@@ -224,6 +210,21 @@ fn ends(rt: &impl Abort, stage: &Stage) {
     ended.expect(rt, "the lines end");
 }
 
+/// A console follows the journal: BSC 1 is ordered again until it is told of that.
+fn follows_on<R: Abort + Clock + Net>(rt: &R, alloc: Global, stage: &mut Stage, path: &str) {
+    let mut console = follows(rt, path);
+    for _ in 0..MOST_LOOKS {
+        types_all(rt, alloc, stage, "retry 1\n", 1);
+        let mut octets = [0u8; 6];
+        if console.read(&mut octets).is_ok() {
+            yes(rt, &octets == b"entry ", "it is told of an entry");
+            stage.consoles.push(console).expect(rt, "memory");
+            return;
+        }
+    }
+    yes(rt, false, path);
+}
+
 /// Passes over the lines of standard error until one has the text.
 fn says(rt: &impl Abort, alloc: Global, stage: &mut Stage, text: &str) {
     for _ in 0..MOST_LOOKS {
@@ -284,6 +285,14 @@ fn peer<'s>(rt: &impl Abort, stage: &'s mut Stage, number: usize) -> &'s mut Tcp
     stage.peers.get_mut(number).expect(rt, "a peer")
 }
 
+/// So often the next frame that the peer gets is of this type. It sends the octets each time.
+fn answers(rt: &impl Abort, peer: &mut TcpStream, kind: u8, octets: &[u8], times: u32) {
+    for _ in 0..times {
+        same(rt, next_frame(rt, peer), kind, "another frame");
+        sends(rt, peer, octets, 1);
+    }
+}
+
 /// Does what a peer does.
 fn plays<R: Abort + Clock>(rt: &R, peer: &mut TcpStream, act: &Act) {
     match act {
@@ -291,10 +300,8 @@ fn plays<R: Abort + Clock>(rt: &R, peer: &mut TcpStream, act: &Act) {
         Act::Fails(_, cells) => fails(rt, peer, *cells),
         Act::Stops(_) => peer.shutdown(Shutdown::Write).expect(rt, "an end"),
         Act::Gets(_, octets) => yes(rt, gets(rt, peer, octets), "other octets"),
-        Act::Answers(_, kind, octets) => {
-            same(rt, next_frame(rt, peer), *kind, "another frame");
-            sends(rt, peer, octets, 1);
-        }
+        Act::Answers(_, kind, octets) => answers(rt, peer, *kind, octets, 1),
+        Act::AnswersOften(_, kind, octets, times) => answers(rt, peer, *kind, octets, *times),
         Act::IsClosed(_) => yes(rt, is_closed(peer), "it isn't closed"),
         Act::Leaves(_) => peer.shutdown(Shutdown::Both).expect(rt, "an end"),
         _ => {}
@@ -302,7 +309,12 @@ fn plays<R: Abort + Clock>(rt: &R, peer: &mut TcpStream, act: &Act) {
 }
 
 /// Does the act.
-fn does<R: Abort + Clock + Net + TextFiles>(rt: &R, alloc: Global, stage: &mut Stage, act: &Act) {
+fn does<R: Abort + Clock + Net<Stream = TcpStream, Listener = TcpListener> + TextFiles>(
+    rt: &R,
+    alloc: Global,
+    stage: &mut Stage,
+    act: &Act,
+) {
     match act {
         Act::Types(line, answer) => {
             yes(rt, is_answered(rt, alloc, stage, line, answer), answer);
@@ -323,6 +335,8 @@ fn does<R: Abort + Clock + Net + TextFiles>(rt: &R, alloc: Global, stage: &mut S
         Act::Stands(path, text) => yes(rt, rt.put(path, text), path),
         Act::Ends => ends(rt, stage),
         Act::Asks(path, line, answer) => yes(rt, is_told(rt, path, line, answer), answer),
+        Act::Follows(path) => follows_on(rt, alloc, stage, path),
+        Act::Shows(lines) => shows(rt, alloc, lines),
         Act::Says(text) => says(rt, alloc, stage, text),
         Act::Listens(links) => listens(rt, alloc, stage, *links),
         Act::Connects(from, bsc) => connects(rt, stage, *from, *bsc),
@@ -331,6 +345,7 @@ fn does<R: Abort + Clock + Net + TextFiles>(rt: &R, alloc: Global, stage: &mut S
         | Act::Stops(number)
         | Act::Gets(number, _)
         | Act::Answers(number, _, _)
+        | Act::AnswersOften(number, _, _, _)
         | Act::IsClosed(number)
         | Act::Leaves(number) => plays(rt, peer(rt, stage, *number), act),
     }
@@ -344,7 +359,7 @@ fn rest_of(rt: &impl Abort, alloc: Global, reader: &mut BufReader<UnixStream>) -
 }
 
 /// Does the acts one after another, and types no more. The answer is what the server still answers and says.
-fn acts_all<R: Abort + Clock + Net + TextFiles>(
+fn acts_all<R: Abort + Clock + Net<Stream = TcpStream, Listener = TcpListener> + TextFiles>(
     rt: &R,
     alloc: Global,
     mut stage: Stage,
@@ -369,7 +384,7 @@ fn taken_port<R: Abort + Net<Stream = TcpStream, Listener = TcpListener>>(
 }
 
 /// A port that nobody listens on, nor on the next one.
-fn free_port<R: Abort + Net<Stream = TcpStream, Listener = TcpListener>>(rt: &R) -> u16 {
+pub(crate) fn free_port<R: Abort + Net<Stream = TcpStream, Listener = TcpListener>>(rt: &R) -> u16 {
     for _ in 0..100 {
         let (listener, port) = taken_port(rt);
         drop(listener);
@@ -402,61 +417,6 @@ fn add_word(rt: &impl Abort, alloc: Global, words: &mut Vec<String>, word: &str)
     words.push(word).expect(rt, "memory");
 }
 
-/// Limits of which so much is spent, as if that were `HELD` from now.
-fn spent_limits<R: Abort + Clock>(rt: &R, spent: Spent) -> LinkLimits {
-    let now = moment(rt).saturating_add(HELD);
-    let mut limits = LinkLimits::usual();
-    for _ in 0..spent.reports {
-        limits.reports.take(now);
-    }
-    for _ in 0..spent.connections {
-        limits.connections.take(now);
-    }
-    let cost = Cost {
-        octets: spent.octets,
-        lines: spent.lines,
-        kept: 0,
-    };
-    limits.costs.take(cost, now);
-    limits
-}
-
-/// The options of a server with these limits.
-fn limited(rt: &impl Abort, alloc: Global, base: u16, limits: LinkLimits) -> ServeOptions {
-    ServeOptions {
-        network: Network {
-            plmn: [0x00, 0xf1, 0x10],
-            broadcasts: 0,
-        },
-        journal_limit: MOST_ENTRIES,
-        fold: FOLD,
-        host: String::from_str(alloc, "127.0.0.1").expect(rt, "memory"),
-        base,
-        links: 2,
-        with_simulator: false,
-        reset: false,
-        reply_seconds: 30,
-        cut_seconds: 0,
-        alive_seconds: 0,
-        query_ms: 0,
-        queries_per_second: 2,
-        peers: None,
-        keep: None,
-        console: None,
-        http: None,
-        consoles: 16,
-        limits,
-    }
-}
-
-/// The options of a server that asks after so many milliseconds.
-fn asking(rt: &impl Abort, alloc: Global, base: u16, query_ms: u64) -> ServeOptions {
-    let mut options = limited(rt, alloc, base, LinkLimits::usual());
-    options.query_ms = query_ms;
-    options.reply_seconds = 2;
-    options
-}
-
 /// The options of the play's server, where words don't say them.
 fn options_of<R: Abort + Clock>(
     rt: &R,
@@ -466,7 +426,8 @@ fn options_of<R: Abort + Clock>(
 ) -> Option<ServeOptions> {
     match play.spent {
         Some(spent) => {
-            let limits = spent_limits(rt, spent);
+            let then = moment(rt).saturating_add(HELD);
+            let limits = spent_limits(spent, then);
             Some(limited(rt, alloc, base, limits))
         }
         None if play.query_ms != 0 => Some(asking(rt, alloc, base, play.query_ms)),
@@ -525,6 +486,7 @@ fn staged<R: Abort + Clock + Net>(rt: &R, alloc: Global, base: u16) -> (Stage, N
         answers: BufReader::new(alloc, answers).expect(rt, "memory"),
         said: BufReader::new(alloc, said).expect(rt, "memory"),
         peers: Vec::new(alloc),
+        consoles: Vec::new(alloc),
     };
     let near = Near {
         typed: BufReader::new(alloc, typed).expect(rt, "memory"),

@@ -99,32 +99,6 @@ fn texts_stand_in_the_file_as_pages(rt: HostRuntime) {
     }
 }
 
-/// Lines that come in one piece. Each counts for the fold, which comes behind every third entry, wherever the piece ends.
-#[test]
-fn lines_in_one_piece_are_folded_in_between(rt: HostRuntime) {
-    keeps(&rt, &FOLDED);
-}
-
-const FOLDED: Kept = Kept {
-    path: "folded-journal",
-    before: None,
-    after: "# cbc journal, network 00f110\nbsc add 1\narea add A\narea add B\ncheckpoint\narea add C\narea add D\narea add E\ncheckpoint\narea add F\n",
-    play: Play {
-        words: &["--keep", "folded-journal", "--fold", "3"],
-        acts: &[Act::Lines(
-            "bsc add 1\narea add A\narea add B\narea add C\narea add C\narea add D\narea add E\narea add F\nquit\n",
-            0,
-        )],
-        answers: Wanted::Is(
-            "ok 1\nok 2\nok 3\nok 4\nno 11 AreaExists\nok 5\nok 6\nok 7\nsettled 7\n",
-        ),
-        said: Wanted::Is(
-            "cbc: the journal was folded, entries: 3\ncbc: the journal was folded, entries: 3\n",
-        ),
-        ..USUAL
-    },
-};
-
 /// The file after both runs.
 const SAID_PAGES: &str = "\
 # cbc journal, network 00f110
@@ -180,6 +154,10 @@ const TORN: Kept = Kept {
         words: &["--keep", "torn-journal"],
         acts: &[Act::Lines("bsc add 2\n", 0)],
         answers: Wanted::Is("ok 4\nsettled 4\n"),
+        said: Wanted::Is(
+            "cbc: journal: a write was torn behind line 3: 6 octets are cut off\n\
+cbc: BSC 2 has no port: --links is 1\n",
+        ),
         ..USUAL
     },
 };
@@ -427,8 +405,8 @@ const READ_AGAIN: Kept = Kept {
             Act::Says("link 3 is up"),
             Act::Connects(1, 2),
             Act::Says("link 4 is up"),
-            Act::Stands("peers-again", "1 127.0.0.2\n2 127.0.0.0/24\n"),
-            Act::Types("peers\n", "peers 2 new 1 gone 1 cut 1\n"),
+            Act::Stands("peers-again", "1 127.0.0.2 127.0.0.3\n2 127.0.0.0/24\n"),
+            Act::Types("peers\n", "peers 3 new 2 gone 1 cut 1\n"),
             Act::Says("link 3 ended: cut, since its address isn't named for this BSC any more"),
             Act::IsClosed(0),
             Act::Connects(1, 1),

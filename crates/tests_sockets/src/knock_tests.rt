@@ -1,10 +1,13 @@
 //! What no clause says of the knock: at which BSCs a start knocks, and that it goes on to listen and to serve.
 
 use crate::checks::yes;
-use crate::given_plays::{Act, Play, USUAL, played};
+use crate::given_plays::{Act, Play, USUAL, free_port, played};
 use crate::given_texts::{Wanted, has};
 use crate::keep_tests::{Kept, keeps};
+use crate::peer::{connected, narrow_listener};
+use server_links::knock;
 use std::fs;
+use std::net::SocketAddr;
 
 /// What is said of a BSC that is knocked at. Behind its number stands the address, which is left out.
 const KNOCKED: &str = "cbc: BSC 1: knocked: its link was up when the centre ended\n";
@@ -114,3 +117,16 @@ const CONNECTED: Play = Play {
     answers: Wanted::Any,
     ..USUAL
 };
+
+/// Nobody is waited for who says nothing to a knock, here one whose system has no room for a connection more.
+#[test]
+fn a_knock_waits_for_nobody(rt: HostRuntime) {
+    let listener = narrow_listener(&rt);
+    let to = listener.local_addr().expect(&rt, "its address");
+    let peer = connected(&rt, 2, to.port());
+    let mut from = SocketAddr::parse_ascii(b"127.0.0.1:0").expect(&rt, "an address");
+    from.set_port(free_port(&rt));
+    yes(&rt, knock(from, to), "a SYN goes out");
+    drop(peer);
+    drop(listener);
+}

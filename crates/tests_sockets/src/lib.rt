@@ -13,6 +13,12 @@ mod checks;
 #[cfg(test)]
 mod console_tests;
 #[cfg(test)]
+mod figure_tests;
+#[cfg(test)]
+mod fold_tests;
+#[cfg(test)]
+mod given_options;
+#[cfg(test)]
 mod given_plays;
 #[cfg(test)]
 mod given_texts;
@@ -22,6 +28,8 @@ mod keep_tests;
 mod knock_tests;
 #[cfg(test)]
 mod link_tests;
+#[cfg(test)]
+mod metrics_page;
 #[cfg(test)]
 mod operator_tests;
 #[cfg(test)]

@@ -1,6 +1,7 @@
 //! What no clause says of the links of a server: which connection gets the link, and that a bad peer harms no other.
 
-use crate::given_plays::{Act, Play, Spent, UNSPENT, USUAL, played};
+use crate::given_options::{Spent, UNSPENT};
+use crate::given_plays::{Act, Play, USUAL, played};
 use crate::given_texts::Wanted;
 
 /// The type of a WRITE-REPLACE.
@@ -238,7 +239,7 @@ const THIRD: &[u8] =
 
 const ALL_FAILED: &str = "awaited 0 onair 1 failed 30 left 0 broadcasts 0\n";
 
-/// Reports that come too fast are held back, and none is lost. Meanwhile another BSC goes on.
+/// Reports that come too fast are held back, which is said once, and none is lost. Meanwhile another BSC goes on.
 #[test]
 fn reports_that_are_held_back_are_not_lost(rt: HostRuntime) {
     played(&rt, rt.alloc(), &HELD_BACK);
@@ -268,6 +269,7 @@ const HELD_BACK: Play = Play {
         Act::Lines("quit\n", 0),
     ],
     answers: Wanted::Settled("100"),
+    said: Wanted::Is(""),
     ..USUAL
 };
 
@@ -369,5 +371,31 @@ const FLOOD: Play = Play {
         Act::Lines("quit\n", 0),
     ],
     answers: Wanted::Settled("90000"),
+    ..USUAL
+};
+
+/// A BSC to which an order goes out again and again, so that it waits, comes back, and does so once more: each time it gets its link and
+/// the order at once.
+#[test]
+fn a_bsc_comes_back_while_its_order_waits(rt: HostRuntime) {
+    played(&rt, rt.alloc(), &BACK_AGAIN);
+}
+
+const BACK_AGAIN: Play = Play {
+    acts: &[
+        Act::Lines(ONE_CELL, 4),
+        Act::Types(ISSUE, "ok 5 warning 1 serial C000\n"),
+        Act::Connects(1, 1),
+        Act::AnswersOften(0, WRITE, CONFUSED, 9),
+        Act::Connects(1, 1),
+        Act::AnswersOften(1, WRITE, CONFUSED, 9),
+        Act::Connects(1, 1),
+        Act::AnswersOften(2, WRITE, CONFUSED, 9),
+        Act::Connects(1, 1),
+        Act::Answers(3, WRITE, WRITTEN),
+        Act::Repeats("board 1\n", ON_AIR),
+        Act::Lines("quit\n", 0),
+    ],
+    answers: Wanted::Settled("100"),
     ..USUAL
 };

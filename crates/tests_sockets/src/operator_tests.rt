@@ -141,3 +141,21 @@ const UP: Play = Play {
     said: Wanted::HasNot("cbc: BSC 2 has no port: --links is 1\n", "warning"),
     ..USUAL
 };
+
+/// Two warnings of two periods are wanted at a BSC. That is said of the one that was issued last, beside the other.
+#[test]
+fn two_periods_at_a_bsc_are_said(rt: HostRuntime) {
+    played(&rt, rt.alloc(), &TWO_PERIODS);
+}
+
+const TWO_PERIODS: Play = Play {
+    acts: &[Act::Lines(
+        "bsc add 1\ncell add 100 7 1\narea add Coast\narea put Coast 100\nissue 4370 3 15 0 30 d4 Coast\nissue 4371 3 15 0 60 d4 Coast\nquit\n",
+        6,
+    )],
+    answers: Wanted::Is("settled 6\n"),
+    said: Wanted::Is(
+        "cbc: warning 2: BSC 1 has warning 1 of another period beside it, and may refuse one: give all warnings of a BSC one period\n",
+    ),
+    ..USUAL
+};

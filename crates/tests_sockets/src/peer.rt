@@ -1,9 +1,10 @@
 //! A peer of a server, which plays the part of a BSC: a connection, and the octets that it sends and gets.
 
-use libc::net::{AF_INET, SOCK_CLOEXEC, SOCK_STREAM, bind, connect, socket};
+use crate::checks::yes;
+use libc::net::{AF_INET, SOCK_CLOEXEC, SOCK_STREAM, bind, connect, listen, socket};
 use os::FromRawFd;
 use std::io::{ErrorKind, Read, Write};
-use std::net::TcpStream;
+use std::net::{TcpListener, TcpStream};
 use std::process::Abort;
 use std::time::Duration;
 
@@ -39,6 +40,16 @@ fn connection(from: u8, port: u16) -> Option<TcpStream> {
     } else {
         None
     }
+}
+
+/// A listener on 127.0.0.1 that takes no connection, and has room for one that waits.
+pub(crate) fn narrow_listener(rt: &impl Abort) -> TcpListener {
+    let fd = unsafe { socket(AF_INET, SOCK_STREAM | SOCK_CLOEXEC, 0) };
+    yes(rt, fd >= 0, "a socket");
+    let listener = unsafe { TcpListener::from_raw_fd(fd) };
+    let bound = unsafe { bind(fd, &address_of(1, 0), 16) };
+    yes(rt, bound == 0 && listen(fd, 0) == 0, "it listens");
+    listener
 }
 
 /// A connection from that address to the port, on which somebody listens.

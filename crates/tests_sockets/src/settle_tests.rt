@@ -3,12 +3,14 @@
 ghost use Rattle.std.specs.Prelude.{◌≡◌};
 
 use crate::checks::same;
+use crate::given_plays::{USUAL, free_port, words_of};
 use centre_events::network::Network;
 use office::office::Office;
-use server::settle;
+use server::{serve_words, settle};
 use server_options::ServeFault;
 use std::alloc::Global;
 use std::marker::Brand;
+use std::os::unix::net::UnixStream;
 use std::process::Abort;
 use std::sync::Wait;
 use std::sync::ledger::{Blank, Ledger};
@@ -57,4 +59,17 @@ fn a_desk_that_is_missing_is_a_settle_fault(rt: HostRuntime) {
     }
     let words = b"cbc: settle fault\n".as_slice();
     same(&rt, fault.words(), words, "other words");
+}
+
+/// A standard output that nobody reads: the last line can't be written, which is a fault where there are no consoles.
+#[test]
+fn an_output_that_nobody_reads_is_a_fault(rt: HostRuntime) {
+    let alloc = rt.alloc();
+    let words = words_of(&rt, alloc, &USUAL, free_port(&rt));
+    let (far, near) = UnixStream::pair(&rt).expect(&rt, "a stream");
+    drop(far);
+    let typed = b"quit\n".as_slice();
+    let errors: Vec<u8> = Vec::new(alloc);
+    let status = serve_words(&rt, alloc, words.as_slice(), typed, near, errors);
+    same(&rt, status, 1, "the status");
 }

@@ -265,3 +265,41 @@ const IS_OVER: Play = Play {
     answers: Wanted::Settled("20"),
     ..USUAL
 };
+
+/// A WRITE-REPLACE COMPLETE of message 4370 with serial number C000 in cells 100 7 and 100 8.
+const WRITTEN_IN_BOTH: &[u8] =
+    b"\x02\x00\x00\x14\x0e\x11\x12\x03\xc0\x00\x04\x00\x09\x01\x00\x64\x00\x07\x00\x64\x00\x08\x12\x00";
+
+/// A MESSAGE STATUS QUERY FAILURE: it was broadcast five times in cell 100 7, and the BSC has no room to answer for cell 100 8.
+const HALF_FIVE: &[u8] =
+    b"\x0c\x00\x00\x1c\x0e\x11\x12\x02\xc0\x00\x09\x00\x06\x01\x00\x64\x00\x08\x06\x08\x00\x08\x01\x00\x64\x00\x07\x00\x05\x00\x12\x00";
+
+/// A number that stands still is said also where the BSC can't answer for another cell.
+#[test]
+fn a_number_beside_a_failure_is_heard(rt: HostRuntime) {
+    played(&rt, rt.alloc(), &BESIDE_A_FAILURE);
+}
+
+const BESIDE_A_FAILURE: Play = Play {
+    acts: &[
+        Act::Lines(ONE_CELL, 4),
+        Act::Lines("cell add 100 8 1\n", 1),
+        Act::Connects(1, 1),
+        Act::Types(ISSUE, "ok "),
+        Act::Answers(0, WRITE, WRITTEN_IN_BOTH),
+        Act::Repeats("board 1\n", "awaited 0 onair 2 "),
+        Act::Types("wish 1 1\n", "wished\n"),
+        Act::Answers(0, QUERY, HALF_FIVE),
+        Act::Repeats(
+            "board 1\n",
+            "awaited 0 onair 2 failed 0 left 0 broadcasts 5\n",
+        ),
+        Act::Rests(7_000),
+        Act::Types("wish 1 1\n", "wished\n"),
+        Act::Answers(0, QUERY, HALF_FIVE),
+        Act::Says("warning 1 is silent in 1 cells: its number of broadcasts doesn't rise there\n"),
+        Act::Lines("quit\n", 0),
+    ],
+    answers: Wanted::Settled("20"),
+    ..USUAL
+};

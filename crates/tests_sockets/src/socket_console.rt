@@ -28,3 +28,15 @@ pub(crate) fn is_told<R: Abort + Net>(rt: &R, path: &str, line: &str, answer: &s
     let place = octets.get_mut(..answer.len()).expect(rt, "a short answer");
     stream.read_exact(place).is_ok() && octets.starts_with(answer.as_bytes()) && ends(&mut stream)
 }
+
+/// How long a read waits, in milliseconds, for an entry to be handed on.
+const TURN: u64 = 20;
+
+/// Has a console at the socket file follow the journal. A read of it waits a short time.
+pub(crate) fn follows<R: Abort + Net>(rt: &R, path: &str) -> UnixStream {
+    let mut stream = UnixStream::connect(rt, path).expect(rt, "it is connected");
+    let turn = Some(Duration::from_millis(TURN));
+    stream.set_read_timeout(turn).expect(rt, "a time");
+    stream.write_all(b"watch\n").expect(rt, "it is typed");
+    stream
+}
