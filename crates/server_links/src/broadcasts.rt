@@ -1,5 +1,9 @@
 //! What replies say of broadcasts: where a number doesn't rise, and when a message came on air.
 
+ghost use Rattle.std.specs.Prelude.{◌≡◌, OnOk, OnErr};
+ghost use Rattle.broadcast_watch.specs.Airings.{others};
+ghost use Rattle.server_links.specs.WriteReplies.{airings_after, is_done, is_done_somewhere};
+
 use crate::counted::all_counted;
 use crate::shared::{Shared, now_of, second_of};
 use broadcast_watch::{Airings, over_since, silence_of, takes_off_air};
@@ -122,9 +126,35 @@ fn period_of(warnings: &[SurveyedWarning], version: Version) -> Option<(WarningI
     }
 }
 
+/// Whether the order was carried out in the cell.
+fn is_done(reply: &Reply) -> bool
+    ensures { result ≡ is_done reply.now }
+{
+    matches!(reply.outcome, Outcome::Done)
+}
+
 /// Whether an order was carried out in one of the cells.
-fn is_done_somewhere(replies: &[Reply]) -> bool {
-    replies.iter().any(|reply| reply.outcome == Outcome::Done)
+fn is_done_somewhere(replies: &[Reply]) -> bool
+    ensures { result ≡ is_done_somewhere replies.now }
+{
+    replies.iter().any(|reply| is_done(reply))
+}
+
+/// A write or a replace of the version was answered at that second. Where it was carried out in some cell, the version came on air. Where
+/// there is no memory for that, nothing is known of the version.
+fn hear_airing(
+    airings: &mut Airings,
+    version: Version,
+    second: u64,
+    replies: &[Reply],
+) -> Result<(), AllocError>
+    ensures heard { OnOk result (airings.new ≡ airings_after version second replies.now airings.old) }
+    ensures lost { OnErr result (airings.new ≡ others version airings.old) }
+{
+    if !is_done_somewhere(replies) {
+        return Ok(());
+    }
+    airings.aired(version, second)
 }
 
 impl<L: Ledger, E: Write + Drop> Shared<L, E> {
@@ -235,11 +265,13 @@ impl<L: Ledger, E: Write + Drop> Shared<L, E> {
         version: Version,
         replies: &[Reply],
     ) -> Result<(), AllocError> {
-        if !is_done_somewhere(replies) {
-            return Ok(());
-        }
-        let mut airings = self.broadcasts.airings.lock(rt);
-        airings.aired(version, second_of(rt))
+        let second = second_of(rt);
+        hear_airing(
+            &mut self.broadcasts.airings.lock(rt),
+            version,
+            second,
+            replies,
+        )
     }
 
     /// The BSC answered a write or a replace of the version.
