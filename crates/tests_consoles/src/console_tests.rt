@@ -2,7 +2,7 @@
 
 use crate::checks::same;
 use crate::given_consoles::entries_of;
-use crate::scripts::Step::{Closes, Connect, IsClosed, Pause, Reads, Sends, SendsMore};
+use crate::scripts::Step::{Closes, Connect, IsClosed, Pause, Reads, Sends, SendsMore, SendsOn};
 use crate::scripts::{Script, Step};
 
 /// Two consoles beside each other: `quit` ends one of them, and whoever sees that end can connect again, to its desk.
@@ -118,13 +118,18 @@ const TOGETHER: &[Step] = &[
     ),
 ];
 
-/// What stands behind `quit` is let go, and the console sees its end, also where it reads late.
+/// What stands behind `quit` is let go, and the console sees its end, also where it reads late or sends on.
 const BEHIND: &[Step] = &[
     Connect(0),
     SendsMore(0, b"bsc add 1\nquit\n"),
     Pause,
     Reads(0, b"ok 1\nbye\n"),
     IsClosed(0),
+    SendsOn(
+        b"bscs\nquit\n",
+        b"bsc 1 cells 0 link none flight none pending 0\nbscs 1\nbye\n",
+        50,
+    ),
 ];
 
 #[test]

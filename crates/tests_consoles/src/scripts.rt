@@ -20,6 +20,9 @@ const MOST_TRIES: u32 = 100_000;
 /// More octets than a console reads at once.
 const MORE: usize = 16_384;
 
+/// How many octets are sent at once until nothing more is taken.
+const PIECE: usize = 4_096;
+
 /// The most octets of an answer.
 const MOST_OCTETS: usize = 200;
 
@@ -32,6 +35,8 @@ pub(crate) enum Step {
     SendsOften(usize, &'static [u8], u32),
     /// These octets, and more behind them than are read at once.
     SendsMore(usize, &'static [u8]),
+    /// So often: another connection sends these octets, and more behind them until it can't. It is answered so, and sees its end.
+    SendsOn(&'static [u8], &'static [u8], u32),
     /// These octets come next.
     Reads(usize, &'static [u8]),
     /// The other end has closed it.
@@ -114,6 +119,34 @@ fn sends_more<R: Abort>(rt: &R, stream: &UnixStream, octets: &[u8]) {
     sends(rt, stream, &all);
 }
 
+/// Sends more until nothing more is taken.
+fn sends_rest<R: Abort>(rt: &R, mut stream: &UnixStream) {
+    let piece = [b'#'; PIECE];
+    for _ in 0..MOST_TRIES {
+        if stream.write_all(&piece).is_err() {
+            return;
+        }
+    }
+    yes(rt, false, "nothing more is taken");
+}
+
+/// Sends these octets, and more behind them until it can't. It is answered so, and sees its end.
+fn sends_all<R: Abort>(rt: &R, stream: &UnixStream, octets: &[u8], wanted: &[u8]) {
+    sends(rt, stream, octets);
+    sends_rest(rt, stream);
+    reads(rt, stream, wanted);
+    is_closed(rt, stream);
+}
+
+/// One connection after another does so.
+fn sends_on<R: Net + Abort>(rt: &R, path: &str, octets: &[u8], wanted: &[u8], times: u32) {
+    for _ in 0..times {
+        let stream = connects(rt, path);
+        sends_all(rt, &stream, octets, wanted);
+        drop(stream);
+    }
+}
+
 /// Connects, and sends these octets. The answer is the connection, where it is answered so.
 fn tries<R: Net + Abort>(rt: &R, path: &str, octets: &[u8], wanted: &[u8]) -> Option<UnixStream> {
     let mut stream = connects(rt, path);
@@ -162,6 +195,7 @@ fn takes<R: Net + Clock + Abort>(
         Step::SendsMore(number, octets) => {
             sends_more(rt, stream_of(rt, streams, number), octets);
         }
+        Step::SendsOn(octets, wanted, times) => sends_on(rt, path, octets, wanted, times),
         Step::Reads(number, octets) => reads(rt, stream_of(rt, streams, number), octets),
         Step::IsClosed(number) => is_closed(rt, stream_of(rt, streams, number)),
         Step::ConnectFree(number, octets, wanted) => {
