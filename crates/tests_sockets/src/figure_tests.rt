@@ -55,8 +55,8 @@ const FIGURES: Play = Play {
         Act::Shows(&["\ncbc_bsc_in_flight_since_timestamp_seconds{bsc=\"1\"} "]),
         Act::Sends(0, WRITTEN, 1),
         Act::Shows(&[
-            "\ncbc_cells{warning=\"1\",state=\"on_air\"} 1\n",
-            "\ncbc_silent_cells{warning=\"1\"} 0\n",
+            "\ncbc_cells{warning=\"1\",message_id=\"4370\",state=\"on_air\"} 1\n",
+            "\ncbc_silent_cells{warning=\"1\",message_id=\"4370\"} 0\n",
         ]),
         Act::Sends(0, FAILURE, 1),
         Act::Shows(&["\ncbc_bsc_down_cells{bsc=\"1\"} 1\n"]),
