@@ -2,3 +2,4 @@ pub mod PuttingLemmas
 pub mod TakingLemmas
 pub mod FileLemmas
 pub mod EnteringLemmas
+pub mod LosingLemmas

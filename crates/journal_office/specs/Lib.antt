@@ -1,3 +1,4 @@
 pub mod Entered
 pub mod LinkComments
 pub mod OfficeJournals
+pub mod Losses

@@ -92,7 +92,7 @@ fn put_each<P: LinkPeers, R: Wait>(
 }
 
 /// Puts the lines of entries that stand behind the last that was put, and where links came from. `Entry` where some between are folded.
-fn put_all<P: LinkPeers, R: Wait>(
+pub(crate) fn put_all<P: LinkPeers, R: Wait>(
     rt: &R,
     alloc: Global,
     peers: &P,

@@ -38,7 +38,7 @@ pub struct Start<'a, L: Ledger, R: Wait> {
 
 /// What the refusal of an event says of its line. No line is at fault where memory ran out, now or before, or where the desk is of
 /// another office.
-fn not_taken(refusal: Refusal) -> NotTaken
+pub(crate) fn not_taken(refusal: Refusal) -> NotTaken
     ensures { result ≡ fault_of refusal }
 {
     match refusal {
@@ -99,7 +99,7 @@ fn event_in<L: Ledger>(alloc: Global, held: &Held<L>, request: Line) -> Result<E
 
 impl<L: Ledger, R: Wait> Start<'_, L, R> {
     /// Folds the journal, and lets go of the receipts of its entries.
-    fn fold(&self, held: &mut Held<L>, desk: &mut Desk<L>) -> Result<(), NotTaken>
+    pub(crate) fn fold(&self, held: &mut Held<L>, desk: &mut Desk<L>) -> Result<(), NotTaken>
         ensures folded { OnOk result (held.new.centre ≡ checkpointed held.old.centre) }
         ensures unchanged { OnErr result (held.new.centre ≡ held.old.centre) }
         ensures memory { IfErr result (λ f. f ≡ NotTaken.Memory) }
@@ -128,7 +128,12 @@ impl<L: Ledger, R: Wait> Start<'_, L, R> {
 
     /// Submits an event.
     #[tactic(auto, using(crate::proofs::TakingLemmas::event_entered, crate::proofs::TakingLemmas::event_refused, crate::proofs::TakingLemmas::starved_by))]
-    fn submit(&self, held: &mut Held<L>, desk: &mut Desk<L>, event: Event) -> Result<(), NotTaken>
+    pub(crate) fn submit(
+        &self,
+        held: &mut Held<L>,
+        desk: &mut Desk<L>,
+        event: Event,
+    ) -> Result<(), NotTaken>
         ensures entered { OnOk result (EntersEvent held.old.centre event held.new.centre) }
         ensures bad { IfErr result (λ f. f ≡ NotTaken.BadLine → (r : Cause) × (verdict held.old.centre.settings (past held.old.centre) event ≡ Err r)) }
         ensures left { OnErr result (IsStarved held.old.centre held.new.centre) }

@@ -173,7 +173,10 @@ fn enter_losses<L: Ledger, R: Wait>(
     writing: &mut Writing,
     file: &mut DiskFile,
 ) -> Result<Synced, ServeFault> {
-    match start.lose_links(desk, writing) {
+    let mut held = start.office.hold(start.rt);
+    let lost = start.lose_links(&mut held, desk, writing);
+    drop(held);
+    match lost {
         Ok(()) => {}
         Err(fault) => return Err(unkept(fault)),
     }

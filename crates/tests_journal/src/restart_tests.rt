@@ -87,7 +87,9 @@ fn reads<L: Ledger, R: Wait + Abort>(
     let mut writing = Writing::new(start.alloc, entries);
     let mut file = MemoryFile::new(Vec::new(start.alloc), 1_000_000, 1_000);
     if result.is_ok() {
-        start.lose_links(desk, &mut writing)?;
+        let mut held = start.office.hold(start.rt);
+        start.lose_links(&mut held, desk, &mut writing)?;
+        drop(held);
     }
     match writing.keep(&mut file) {
         Ok(_) => Ok((result, (entries, receipts), file)),
