@@ -1,6 +1,5 @@
 //! A peer of a server, which plays the part of a BSC: a connection, and the octets that it sends and gets.
 
-use crate::checks::yes;
 use libc::net::{AF_INET, SOCK_CLOEXEC, SOCK_STREAM, bind, connect, listen, socket};
 use os::FromRawFd;
 use std::io::{ErrorKind, Read, Write};
@@ -42,14 +41,24 @@ fn connection(from: u8, port: u16) -> Option<TcpStream> {
     }
 }
 
-/// A listener on 127.0.0.1 that takes no connection, and has room for one that waits.
-pub(crate) fn narrow_listener(rt: &impl Abort) -> TcpListener {
+/// A listener on 127.0.0.1 that has room for one connection that waits, if the system gives one.
+fn narrow() -> Option<TcpListener> {
     let fd = unsafe { socket(AF_INET, SOCK_STREAM | SOCK_CLOEXEC, 0) };
-    yes(rt, fd >= 0, "a socket");
+    if fd < 0 {
+        return None;
+    }
     let listener = unsafe { TcpListener::from_raw_fd(fd) };
     let bound = unsafe { bind(fd, &address_of(1, 0), 16) };
-    yes(rt, bound == 0 && listen(fd, 0) == 0, "it listens");
-    listener
+    if bound == 0 && listen(fd, 0) == 0 {
+        Some(listener)
+    } else {
+        None
+    }
+}
+
+/// A listener on 127.0.0.1 that takes no connection, and has room for one that waits.
+pub(crate) fn narrow_listener(rt: &impl Abort) -> TcpListener {
+    narrow().expect(rt, "it listens")
 }
 
 /// A connection from that address to the port, on which somebody listens.
