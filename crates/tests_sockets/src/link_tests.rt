@@ -374,8 +374,7 @@ const FLOOD: Play = Play {
     ..USUAL
 };
 
-/// A BSC to which an order goes out again and again, so that it waits, comes back, and does so once more: each time it gets its link and
-/// the order at once.
+/// A BSC whose order waits, since it went out again and again, comes back three times: each time it gets its link and the order at once.
 #[test]
 fn a_bsc_comes_back_while_its_order_waits(rt: HostRuntime) {
     played(&rt, rt.alloc(), &BACK_AGAIN);
