@@ -49,6 +49,13 @@ impl BroadcastWatch {
         }
     }
 
+    /// When the server began, in seconds after 1970-01-01T00:00:00Z.
+    pub fn begun(&self) -> u64
+        ensures { result ≡ self.now.begun }
+    {
+        self.begun
+    }
+
     /// Since when the version is over that has that Warning Period, where it is on air by the board. One of which no reply said that it
     /// came on air was there when the server began.
     pub fn over_since<R: Wait>(
