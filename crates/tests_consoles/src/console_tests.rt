@@ -127,7 +127,7 @@ const BEHIND: &[Step] = &[
     IsClosed(0),
     SendsOn(
         b"bscs\nquit\n",
-        b"bsc 1 cells 0 link none flight none pending 0\nbscs 1\nbye\n",
+        b"bsc 1 cells 0 link down flight none pending 0\nbscs 1\nbye\n",
         50,
     ),
 ];

@@ -13,7 +13,7 @@ use std::process::Abort;
 
 /// What a page of a stuck warning says.
 const STUCK: &[u8] =
-    b"</p><p class=\"none\">Cells are awaited or left, but no BSC is at work for it. If a BSC refused an order, type retry B. Else a cell or a link is down, or a BSC does not answer.</p>";
+    b"</p></summary><p class=\"none\">Cells are awaited or left, but no BSC is at work for it. If a BSC refused an order, type retry B. Else a cell or a link is down, or a BSC does not answer.</p>";
 
 /// What a page has to say of a warning, and whether that it is stuck.
 #[derive(Clone, Copy)]
