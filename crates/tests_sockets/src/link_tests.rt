@@ -194,7 +194,11 @@ const RESTARTS_AGAIN: Play = Play {
         Act::Lines("quit\n", 0),
     ],
     answers: Wanted::Settled("20"),
-    said: Wanted::Is(""),
+    said: Wanted::Is(
+        "cbc: BSC 1: cells broadcast again for texts (RESTART), their messages are lost: 100 7\n\
+cbc: BSC 1: cells broadcast again for texts (RESTART), their messages are lost: 100 7\n\
+cbc: BSC 1: cells broadcast again for texts (RESTART), their messages are lost: 100 7\n",
+    ),
     ..USUAL
 };
 
@@ -269,7 +273,10 @@ const HELD_BACK: Play = Play {
         Act::Lines("quit\n", 0),
     ],
     answers: Wanted::Settled("100"),
-    said: Wanted::Is(""),
+    said: Wanted::HasNot(
+        "cbc: BSC 1: cells down for texts (FAILURE): 100 ",
+        "held back",
+    ),
     ..USUAL
 };
 

@@ -138,7 +138,7 @@ const UP: Play = Play {
         Act::Lines("stop 1\nstop 2\nquit\n", 2),
     ],
     answers: Wanted::Settled("40"),
-    said: Wanted::HasNot("cbc: BSC 2 has no port: --links is 1\n", "warning"),
+    said: Wanted::HasNot("cbc: BSC 2 has no port: --links is 1\n", "cbc: warning"),
     ..USUAL
 };
 
