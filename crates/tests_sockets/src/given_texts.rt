@@ -92,7 +92,7 @@ fn is_usual(line: &[u8]) -> bool {
     has(line, b" were read from ")
 }
 
-/// Adds the line without its time, and without an address in parentheses behind the number of a BSC. What a server says as it begins and
+/// Adds the line without its time, and, of a BSC, without what stands in parentheses, as its address. What a server says as it begins and
 /// as it ends isn't added.
 fn add_plain(rt: &impl Abort, plain: &mut Vec<u8>, line: &[u8]) {
     let line = without_time(line);

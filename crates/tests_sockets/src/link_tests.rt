@@ -195,9 +195,9 @@ const RESTARTS_AGAIN: Play = Play {
     ],
     answers: Wanted::Settled("20"),
     said: Wanted::Is(
-        "cbc: BSC 1: cells broadcast again for texts (RESTART), their messages are lost: 100 7\n\
-cbc: BSC 1: cells broadcast again for texts (RESTART), their messages are lost: 100 7\n\
-cbc: BSC 1: cells broadcast again for texts (RESTART), their messages are lost: 100 7\n",
+        "cbc: BSC 1: cells broadcast again for texts, their messages are lost: 100 7\n\
+cbc: BSC 1: cells broadcast again for texts, their messages are lost: 100 7\n\
+cbc: BSC 1: cells broadcast again for texts, their messages are lost: 100 7\n",
     ),
     ..USUAL
 };
@@ -273,10 +273,7 @@ const HELD_BACK: Play = Play {
         Act::Lines("quit\n", 0),
     ],
     answers: Wanted::Settled("100"),
-    said: Wanted::HasNot(
-        "cbc: BSC 1: cells down for texts (FAILURE): 100 ",
-        "held back",
-    ),
+    said: Wanted::HasNot("cbc: BSC 1: cells down for texts: 100 ", "held back"),
     ..USUAL
 };
 
