@@ -1,1 +1,2 @@
 pub mod ListTexts
+pub mod ReachTexts

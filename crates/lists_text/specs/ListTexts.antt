@@ -1,5 +1,5 @@
 -- What an operator is told of each thing in a list, line by line.
-use Rattle.std.specs.Prelude.{ℕ, ◌-◌, ◌/◌, ◌%◌, Bool, true, false, ◌&&◌, ◌==◌, not, slice_index_or, List, [], ◌∷◌, ◌++◌, Option, Some, None, codes, count_by, decimal, length, map, if◌then◌else◌}
+use Rattle.std.specs.Prelude.{ℕ, ◌-◌, ◌/◌, ◌%◌, Bool, true, false, ◌&&◌, ◌==◌, not, slice_index_or, List, [], ◌∷◌, ◌++◌, Option, Some, None, codes, count_by, decimal, length, map, nat_lt, take, if◌then◌else◌}
 use Rattle.std.specs.Char.{encode_utf8, is_control}
 use Rattle.std.specs.Int.{bytes_high_first}
 use Rattle.std.specs.List.{flat_map}
@@ -188,6 +188,38 @@ warning_line r = warning_head r ++ (joined r.areas ++ warning_numbers r.numbers)
 -- a line for each warning, and their number
 abbrev pub warnings_text : List WarningRow → List ℕ
 warnings_text rows = flat_map warning_line rows ++ count_text (codes "warnings") (length rows)
+
+-- Texts.
+
+-- a letter in a line: a control letter is shown as a space, since it may move what a terminal shows
+abbrev pub line_letter : ℕ → List ℕ
+line_letter letter = if is_control letter then codes " " else encode_utf8 letter
+
+-- two dots stand for the letters behind the fortieth
+abbrev pub dots_behind : List ℕ → List ℕ
+dots_behind letters = if nat_lt 40 (length letters) then codes ".." else []
+
+-- the first forty letters, in a line
+abbrev pub first_letters : List ℕ → List ℕ
+first_letters letters = flat_map line_letter (take 40 letters) ++ dots_behind letters
+
+-- the title of a text
+abbrev pub text_title : List ℕ → List ℕ
+text_title text = codes " text " ++ first_letters (chars text)
+
+-- that of pages, where they have a text
+abbrev pub title_if : Option (List ℕ) → List ℕ
+title_if None = []
+title_if (Some text) = text_title text
+
+abbrev pub cbs_title : CbsContent → List ℕ
+cbs_title c = title_if (option_map encode_utf8_all (read_text c.dcs c.pages))
+
+-- the title of a warning with that content; an emergency warning has no text
+abbrev pub content_title : Option Content → List ℕ
+content_title None = []
+content_title (Some (content.Cbs c)) = cbs_title c
+content_title (Some (content.Emergency e)) = []
 
 -- a letter of a text: a line feed begins another line of it, and any other control letter is shown as a space, since it may
 -- move what a terminal shows

@@ -6,7 +6,7 @@ ghost use Rattle.lists_text.specs.ListTexts.{four_digits, identifier_text};
 use std::alloc::{AllocError, Global};
 
 /// Four upper-case hexadecimal digits.
-pub(crate) fn four_digits(alloc: Global, number: u16) -> Result<String, AllocError>
+pub fn four_digits(alloc: Global, number: u16) -> Result<String, AllocError>
     ensures { IfOk result (λ text. string_bytes text ≡ four_digits number) }
 {
     let octets = number.to_be_bytes();

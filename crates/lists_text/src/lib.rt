@@ -14,13 +14,18 @@ mod lines;
 mod named_areas;
 mod names;
 mod pages;
+mod reach;
 mod status;
+mod titles;
 mod warnings;
 
 pub use air::SilentRow;
 pub use bscs::{bscs_text, links_text};
 pub use cells::cells_text;
+pub use digits::four_digits;
 pub use failures::failed_text;
 pub use named_areas::{area_text, areas_text};
+pub use reach::{named_text, reach_text};
 pub use status::status_text;
+pub use titles::{Title, title_text};
 pub use warnings::{sheet_text, warnings_text};

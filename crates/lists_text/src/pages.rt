@@ -13,7 +13,7 @@ use message_text::text_of;
 use std::alloc::{AllocError, Global};
 
 /// The letters of a text.
-fn letters_of(alloc: Global, text: &str) -> Result<Vec<char>, AllocError>
+pub(crate) fn letters_of(alloc: Global, text: &str) -> Result<Vec<char>, AllocError>
     ensures { IfOk result (λ letters. letters.items ≡ chars text.now) }
 {
     text.chars().collect(alloc)

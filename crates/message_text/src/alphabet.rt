@@ -103,7 +103,7 @@ pub(crate) fn extended_code(letter: char) -> Option<u8>
 }
 
 /// Whether the alphabet or the extension table has the letter.
-pub(crate) fn has_code(letter: char) -> bool
+pub fn has_code(letter: char) -> bool
     ensures { result ≡ table.has_code letter }
 {
     code_of(letter).is_some() || extended_code(letter).is_some()

@@ -17,6 +17,7 @@ mod text_pages;
 mod ucs2;
 mod writing;
 
+pub use alphabet::has_code;
 pub use coding::Coding;
 pub use fault::TextFault;
 pub use reading::text_of;
