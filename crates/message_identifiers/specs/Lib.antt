@@ -1,3 +1,4 @@
+pub mod AlertTexts
 pub mod Lookups
 pub mod Nearness
 pub mod Table

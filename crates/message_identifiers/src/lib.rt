@@ -4,6 +4,7 @@
 //! Begin with `table`: its rows are those of `specs/Table`. An identifier is added as a row of both. A name stands for one number.
 #![tactic(auto)]
 
+mod alerts;
 mod identifier;
 mod laws;
 mod lookups;
@@ -12,6 +13,7 @@ mod table;
 mod unusual;
 pub mod usage;
 
+pub use alerts::{is_emergency, unusual_alert_text};
 pub use laws::{each_name_is_read_as_its_number, none_is_closer, rows_are_distinct};
 pub use lookups::{name_of, number_of, usage_of};
 pub use nearness::nearest_to;
