@@ -1,5 +1,5 @@
 -- What an operator is told of each thing in a list, line by line.
-use Rattle.std.specs.Prelude.{ℕ, ◌-◌, ◌/◌, ◌%◌, Bool, true, false, ◌&&◌, ◌==◌, not, slice_index_or, List, [], ◌∷◌, ◌++◌, Option, Some, None, codes, count_by, decimal, length, map, nat_lt, take, if◌then◌else◌}
+use Rattle.std.specs.Prelude.{ℕ, ◌-◌, ◌/◌, ◌%◌, Bool, true, false, ◌&&◌, ◌==◌, not, slice_index_or, List, [], ◌∷◌, ◌++◌, Option, Some, None, codes, count_by, decimal, find, length, map, nat_eq, nat_lt, take, if◌then◌else◌}
 use Rattle.std.specs.Char.{encode_utf8, is_control}
 use Rattle.std.specs.Int.{bytes_high_first}
 use Rattle.std.specs.List.{flat_map}
@@ -23,6 +23,7 @@ use Rattle.centre_past.specs.declared.lists.warning_sheet.WarningSheet.{WarningS
 use Rattle.coverage_board.specs.declared.numbers.Numbers.{Numbers}
 use Rattle.hex.specs.Hex.{encode_lower, encode_upper}
 use Rattle.lists_text.specs.declared.air.SilentRow.{SilentRow}
+use Rattle.lists_text.specs.declared.titles.Title.{Title}
 use Rattle.message_text.specs.Reading.{read_text}
 use Rattle.warning_book.specs.Content.{category_number}
 use Rattle.warning_book.specs.declared.cbs_content.CbsContent.{CbsContent}
@@ -179,15 +180,28 @@ warning_head r =
 -- what stands behind them: its numbers on the board
 abbrev pub warning_numbers : Numbers → List ℕ
 warning_numbers n =
-    codes " awaited " ++ (decimal n.awaited ++ (codes " onair " ++ (decimal n.on_air ++ (codes " failed " ++ (decimal n.failed ++ (codes " left " ++ (decimal n.left ++ (codes " broadcasts " ++ (decimal n.broadcasts ++ newline)))))))))
+    codes " awaited " ++ (decimal n.awaited ++ (codes " onair " ++ (decimal n.on_air ++ (codes " failed " ++ (decimal n.failed ++ (codes " left " ++ (decimal n.left ++ (codes " broadcasts " ++ decimal n.broadcasts))))))))
 
--- the line of a warning
+-- the line of a warning, with its title
+abbrev pub titled_line : List ℕ → WarningRow → List ℕ
+titled_line title r = warning_head r ++ (joined r.areas ++ (warning_numbers r.numbers ++ (title ++ newline)))
+
+-- without one
 abbrev pub warning_line : WarningRow → List ℕ
-warning_line r = warning_head r ++ (joined r.areas ++ warning_numbers r.numbers)
+warning_line r = titled_line [] r
+
+-- the title that was found, if one was
+abbrev pub title_in : Option Title → List ℕ
+title_in None = []
+title_in (Some t) = t.text
+
+-- the title of the row's warning
+abbrev pub title_of : List Title → WarningRow → List ℕ
+title_of titles r = title_in (find (λ t. nat_eq t.warning r.number) titles)
 
 -- a line for each warning, and their number
-abbrev pub warnings_text : List WarningRow → List ℕ
-warnings_text rows = flat_map warning_line rows ++ count_text (codes "warnings") (length rows)
+abbrev pub warnings_text : List Title → List WarningRow → List ℕ
+warnings_text titles rows = flat_map (λ r. titled_line (title_of titles r) r) rows ++ count_text (codes "warnings") (length rows)
 
 -- Texts.
 

@@ -1,18 +1,20 @@
 //! The list of warnings, and one warning with its content.
 
-ghost use Rattle.std.specs.Prelude.{◌≡◌, ◌++◌, IfOk, OnOk, string_bytes};
-ghost use Rattle.lists_text.specs.ListTexts.{kind_name, serial_text, sheet_text, state_name, warning_head, warning_line, warning_numbers, warnings_text};
+ghost use Rattle.std.specs.Prelude.{◌≡◌, ◌++◌, IfOk, OnOk, find, nat_eq, string_bytes};
+ghost use Rattle.std.specs.Option.{option_copied};
+ghost use Rattle.lists_text.specs.ListTexts.{kind_name, serial_text, sheet_text, state_name, title_of, titled_line, warning_head, warning_numbers, warnings_text};
 
 use crate::air::{SilentRow, push_air};
 use crate::contents::push_content;
 use crate::digits::{four_digits, identifier_text};
 use crate::lines::{push_count, push_line};
 use crate::names::push_names;
+use crate::titles::Title;
 use centre_past::lists::{WarningRow, WarningSheet};
 use coverage_board::Numbers;
 use serials::Serial;
 use std::alloc::{AllocError, Global};
-use warning_book::Kind;
+use warning_book::{Kind, WarningId};
 
 /// The serial number of the current version.
 fn serial_text(alloc: Global, serial: Option<Serial>) -> Result<String, AllocError>
@@ -64,28 +66,68 @@ fn warning_numbers(alloc: Global, numbers: Numbers) -> Result<String, AllocError
         broadcasts,
     } = numbers;
     format!(in alloc;
-        " awaited {awaited} onair {on_air} failed {failed} left {left} broadcasts {broadcasts}\n"
+        " awaited {awaited} onair {on_air} failed {failed} left {left} broadcasts {broadcasts}"
     )
 }
 
-/// Puts the line of a warning behind the text.
-fn push_warning(alloc: Global, text: &mut Vec<u8>, row: &WarningRow) -> Result<(), AllocError>
-    ensures { OnOk result (text.new.items ≡ text.old.items ++ warning_line row.now) }
+/// Puts the line of a warning behind the text, with that title.
+fn push_warning(
+    alloc: Global,
+    text: &mut Vec<u8>,
+    row: &WarningRow,
+    title: &[u8],
+) -> Result<(), AllocError>
+    ensures { OnOk result (text.new.items ≡ text.old.items ++ titled_line title.now row.now) }
 {
     let head = warning_head(alloc, row)?;
     let numbers = warning_numbers(alloc, row.numbers)?;
     push_line(text, head.as_str())?;
     push_names(text, row.areas.as_slice())?;
-    push_line(text, numbers.as_str())
+    push_line(text, numbers.as_str())?;
+    text.extend_from_slice(title)?;
+    push_line(text, "\n")
 }
 
-/// A line for each warning, and their number.
-pub fn warnings_text(alloc: Global, rows: &[WarningRow]) -> Result<Vec<u8>, AllocError>
-    ensures { IfOk result (λ text. text.items ≡ warnings_text rows.now) }
+/// The title of the warning among these, if it has one.
+fn found_title(titles: &[Title], warning: WarningId) -> Option<&Title>
+    ensures { option_copied result ≡ find (λ t. nat_eq t.warning warning) titles.now }
+{
+    titles.iter().find(|title| title.warning == warning)
+}
+
+/// The title of the row's warning among these, empty where it has none.
+fn title_of<'t>(titles: &'t [Title], row: &WarningRow) -> &'t [u8]
+    ensures { result.now ≡ title_of titles.now row.now }
+{
+    match found_title(titles, row.number) {
+        Some(title) => title.text.as_slice(),
+        None => &[],
+    }
+}
+
+/// Puts the line of a warning behind the text, with its title where it is among these.
+fn push_titled(
+    alloc: Global,
+    text: &mut Vec<u8>,
+    row: &WarningRow,
+    titles: &[Title],
+) -> Result<(), AllocError>
+    ensures { OnOk result (text.new.items ≡ text.old.items ++ titled_line (title_of titles.now row.now) row.now) }
+{
+    push_warning(alloc, text, row, title_of(titles, row))
+}
+
+/// A line for each warning, with its title where it is among these, and their number.
+pub fn warnings_text(
+    alloc: Global,
+    rows: &[WarningRow],
+    titles: &[Title],
+) -> Result<Vec<u8>, AllocError>
+    ensures { IfOk result (λ text. text.items ≡ warnings_text titles.now rows.now) }
 {
     let mut text = Vec::new(alloc);
     for row in rows {
-        push_warning(alloc, &mut text, row)?;
+        push_titled(alloc, &mut text, row, titles)?;
     }
     push_count(alloc, &mut text, "warnings", rows.len())?;
     Ok(text)
@@ -102,7 +144,7 @@ pub fn sheet_text(
     ensures { IfOk result (λ text. text.items ≡ sheet_text silent.now over sheet.now) }
 {
     let mut text = Vec::new(alloc);
-    push_warning(alloc, &mut text, &sheet.row)?;
+    push_warning(alloc, &mut text, &sheet.row, &[])?;
     push_air(alloc, &mut text, silent, over)?;
     push_content(alloc, &mut text, &sheet.content)?;
     Ok(text)

@@ -1,6 +1,5 @@
 -- From what a line is answered to the text of its answer.
 use Rattle.std.proofs.Common.{◌≡◌, ◌++◌, ℕ, Bool, false, [], ◌∷◌, inl, inr, codes, List, Option, Some, None, MatchBool, MatchOption, Result, Ok, Err, IfOk, subst, sym}
-use Rattle.centre_events.specs.declared.event.Event.TheVariants as event
 use Rattle.centre_events.specs.declared.refusal.Refusal.{Refusal}
 use Rattle.centre_past.specs.declared.lists.centre_status.CentreStatus.{CentreStatus}
 use Rattle.console_text.specs.Texts.{refused_text, response_text}
@@ -19,11 +18,12 @@ use Rattle.server_lines.specs.declared.list_line.ListLine.{ListLine}
 use Rattle.server_lines.specs.declared.server_line.ServerLine.{ServerLine}
 use Rattle.server_lines.specs.declared.server_line.ServerLine.TheVariants as line
 use Rattle.server_lines.specs.declared.text_line.TextLine.{TextLine}
-use Rattle.server_operator.specs.Hearing.{IsHeard, IsHeardAs, IsHeardIf, IsHeardIn, IsLeft, IsListed, IsSayAnswer, IsTextOf, IsUnheard, IsWishAnswer}
+use Rattle.server_operator.specs.Hearing.{IsHeard, IsHeardAs, IsHeardIf, IsHeardIn, IsLeft, IsListed, IsSayAnswer, IsUnheard, IsWishAnswer}
 use Rattle.server_operator.specs.Leavings.{leaving_of}
 use Rattle.server_operator.specs.Listing.{IsStatusAnswer}
 use Rattle.server_operator.specs.Saying.{IsSaid}
-use Rattle.server_operator.specs.Submitting.{IsSubmitAnswer}
+use Rattle.server_operator.specs.Submitting.{IsTextOf}
+use Rattle.server_operator.specs.Telling.{IsEditText}
 use Rattle.server_operator.specs.declared.heard.Heard.{Heard}
 use Rattle.server_operator.specs.declared.heard.Heard.TheVariants as heard
 use Rattle.server_operator.specs.declared.leaving.Leaving.{Leaving}
@@ -35,10 +35,10 @@ text_of bytes P r (Ok s) such is = record { response = r; such = such; is = is }
 text_of bytes P r (Err e) such is = tt
 
 -- a text that was typed is said
-pub said_text : {S E : Type 0} (bytes : S → List ℕ) (d d' : DeskState) (l : TextLine) (change : EditOf) (r : Response) (o : Result S E) → IsSaid l (said.Edit change)
-    → IsSubmitAnswer d (event.Edit change) d' r → IfOk o (λ s. bytes s ≡ response_text r) → IfOk o (λ s. IsSayAnswer d l d' (bytes s))
-said_text bytes d d' l change r (Ok s) asks answer is = inl (record { change = change; asks = asks; answered = record { response = r; such = answer; is = is } })
-said_text bytes d d' l change r (Err e) asks answer is = tt
+pub said_text : {S E : Type 0} (bytes : S → List ℕ) (d d' : DeskState) (l : TextLine) (change : EditOf) (o : Result S E) → IsSaid l (said.Edit change)
+    → IfOk o (λ s. IsEditText d change d' (bytes s)) → IfOk o (λ s. IsSayAnswer d l d' (bytes s))
+said_text bytes d d' l change (Ok s) asks answered = inl (record { change = change; asks = asks; answered = answered })
+said_text bytes d d' l change (Err e) asks answered = tt
 
 -- or it is bad
 pub bad_text : {S E : Type 0} (bytes : S → List ℕ) (d d' : DeskState) (l : TextLine) (o : Result S E) → IsSaid l said.BadText → d' ≡ d → IfOk o (λ s. bytes s ≡ codes "bad text" ++ 10 ∷ [])

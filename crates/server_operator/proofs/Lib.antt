@@ -2,5 +2,8 @@ pub mod AskingLemmas
 pub mod BatchLemmas
 pub mod HearingLemmas
 pub mod ListingLemmas
+pub mod PartLemmas
+pub mod SelectingLemmas
 pub mod SubmittingLemmas
+pub mod TellingLemmas
 pub mod TypingLemmas

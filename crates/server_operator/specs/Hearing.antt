@@ -1,12 +1,10 @@
 -- What comes of a line of an operator.
 use Rattle.std.specs.Prelude.{◌≡◌, ◌⊎◌, ◌++◌, ℕ, Bool, List, [], ◌∷◌, Option, Some, None, MatchBool, MatchOption, codes, string_bytes}
 use Rattle.common.specs.declared.cell.Cell.{Cell}
-use Rattle.centre_events.specs.declared.event.Event.TheVariants as event
 use Rattle.centre_events.specs.declared.refusal.Refusal.{Refusal}
 use Rattle.centre_events.specs.declared.refusal.Refusal.TheVariants as refusal
-use Rattle.console_text.specs.Texts.{refused_text, response_text}
+use Rattle.console_text.specs.Texts.{refused_text}
 use Rattle.console_text.specs.Words.{is_comment, words_of}
-use Rattle.console_text.specs.declared.response.Response.{Response}
 use Rattle.coverage_plan.specs.declared.edit.Edit.{Edit as EditOf}
 use Rattle.line_faults.specs.Faults.{IsFault}
 use Rattle.line_faults.specs.Texts.{fault_text}
@@ -24,23 +22,18 @@ use Rattle.server_operator.specs.Leavings.{leaving_of}
 use Rattle.server_operator.specs.Listing.{IsListAnswer, IsStatusAnswer}
 use Rattle.server_operator.specs.Responding.{IsAnswer}
 use Rattle.server_operator.specs.Saying.{IsSaid}
-use Rattle.server_operator.specs.Submitting.{IsCutAnswer, IsSubmitAnswer}
+use Rattle.server_operator.specs.Submitting.{IsCutAnswer, IsTextOf}
+use Rattle.server_operator.specs.Telling.{IsEditText}
 use Rattle.server_operator.specs.declared.heard.Heard.{Heard}
 use Rattle.server_operator.specs.declared.heard.Heard.TheVariants as heard
 use Rattle.server_operator.specs.declared.said.Said.TheVariants as said
 use Rattle.server_operator.specs.declared.leaving.Leaving.{Leaving}
 
--- the text is that of such a response
-pub record IsTextOf (P : Response → Type 0) (text : List ℕ) : Type 0 where
-  pub response : Response
-  pub such : P response
-  pub is : text ≡ response_text response
-
 -- a line with a text is answered as the edit is that it asks for
 pub record IsSayText (before : DeskState) (l : TextLine) (after : DeskState) (text : List ℕ) : Type 0 where
   pub change : EditOf
   pub asks : IsSaid l (said.Edit change)
-  pub answered : IsTextOf (IsSubmitAnswer before (event.Edit change) after) text
+  pub answered : IsEditText before change after text
 
 -- or its text is bad
 abbrev pub IsBadTextAnswer : DeskState → TextLine → DeskState → List ℕ → Type 0
@@ -96,7 +89,7 @@ IsHeardAs before line.Help after h = IsAnswered (λ text. Unit {0}) h × (after 
 IsHeardAs before (line.List l) after h = IsListed before l h × (after ≡ before)
 IsHeardAs before (line.Text l) after h = IsAnswered (IsSayAnswer before l after) h
 IsHeardAs before (line.CutLink b) after h = IsAnswered (IsTextOf (IsCutAnswer before b after)) h
-IsHeardAs before (line.Centre l) after h = IsAnswered (IsTextOf (IsAnswer before l after)) h
+IsHeardAs before (line.Centre l) after h = IsAnswered (IsAnswer before l after) h
 IsHeardAs before other after h = IsAnswered (λ text. text ≡ bad_line_text fault.NotHere) h × (after ≡ before)
 
 -- the line ends the lines so

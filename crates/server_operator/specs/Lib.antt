@@ -4,8 +4,11 @@ pub mod Downs
 pub mod Hearing
 pub mod Leavings
 pub mod Listing
+pub mod Parts
 pub mod Periods
 pub mod Responding
 pub mod Saying
+pub mod Selecting
 pub mod Sequels
 pub mod Submitting
+pub mod Telling

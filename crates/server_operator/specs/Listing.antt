@@ -1,5 +1,5 @@
 -- What a line that asks for a list is answered, and `status`.
-use Rattle.std.specs.Prelude.{◌≡◌, ◌⊎◌, ℕ, List, []}
+use Rattle.std.specs.Prelude.{◌≡◌, ◌⊎◌, ℕ, List, [], ◌∷◌}
 use Rattle.areas.specs.declared.selector.Selector.{Selector}
 use Rattle.centre_events.specs.declared.refusal.Refusal.{Refusal}
 use Rattle.centre_past.specs.declared.lists.area_row.AreaRow.{AreaRow}
@@ -13,12 +13,14 @@ use Rattle.centre_questions.specs.declared.question.Question.TheVariants as ques
 use Rattle.centre_questions.specs.declared.seen_value.SeenValue.{SeenValue}
 use Rattle.centre_questions.specs.declared.seen_value.SeenValue.TheVariants as value
 use Rattle.console_text.specs.Texts.{refused_text}
-use Rattle.lists_text.specs.ListTexts.{area_text, areas_text, bscs_text, cells_text, failed_text, links_text, sheet_text, status_text, warnings_text}
+use Rattle.lists_text.specs.ListTexts.{area_text, areas_text, bscs_text, cells_text, content_title, failed_text, links_text, sheet_text, status_text, warnings_text}
+use Rattle.lists_text.specs.declared.titles.Title.{Title}
 use Rattle.office.specs.Desks.{DeskState}
 use Rattle.office.specs.Offices.{IsSeenSomewhere, IsUnseenSomewhere, IsWrongDesk}
 use Rattle.office.specs.Statuses.{IsStatusSomewhere}
 use Rattle.office.specs.declared.seen.Seen.{Seen}
 use Rattle.server_lines.specs.declared.list_line.ListLine.{ListLine}
+use Rattle.server_operator.specs.Parts.{AreParts}
 use Rattle.server_operator.specs.declared.beside.Beside.{Beside}
 use Rattle.server_lines.specs.declared.list_line.ListLine.TheVariants as line
 
@@ -69,20 +71,46 @@ list_text beside line.Links v = links_text beside.resets.items (bscs_in v)
 list_text beside (line.Cells b) v = cells_text b (cells_in v)
 list_text beside line.Areas v = areas_text (areas_in v)
 list_text beside (line.Area a) v = area_text a (selectors_in v)
-list_text beside line.Warnings v = warnings_text (warnings_in v)
+list_text beside line.Warnings v = warnings_text beside.titles.items (warnings_in v)
 list_text beside (line.Warning w) v = sheet_in beside v
 list_text beside (line.Failed w) v = failed_text (failed_in v)
 
--- the text is that of what was seen, and of what the server says beside it
-pub record IsShown (line : ListLine) (v : SeenValue) (text : List ℕ) : Type 0 where
+-- the title of a warning that was seen
+abbrev pub title_in : SeenValue → List ℕ
+title_in (value.Warning sheet) = content_title sheet.content
+title_in other = []
+
+-- the title is that of the warning, as some centre shows it that meets the desk
+pub record IsTitle (d : DeskState) (w : ℕ) (titles : List Title) : Type 0 where
+  pub seen : Seen
+  pub somewhere : IsSeenSomewhere d (question.Warning w) seen
+  pub is : titles ≡ record { warning = w; text = title_in seen.value } ∷ []
+
+-- there is none, since a centre refuses to show the warning
+pub record IsUntitled (d : DeskState) (w : ℕ) (titles : List Title) : Type 0 where
+  pub cause : Refusal
+  pub somewhere : IsUnseenSomewhere d (question.Warning w) cause
+  pub is : titles ≡ []
+
+-- the title of the warning, or none
+abbrev pub IsTitled : DeskState → ℕ → List Title → Type 0
+IsTitled d w titles = IsTitle d w titles ⊎ IsUntitled d w titles
+
+-- the titles of the rows, each as it is when it's asked for
+abbrev pub AreTitles : DeskState → List WarningRow → List Title → Type 0
+AreTitles d rows titles = AreParts (λ (row : WarningRow). IsTitled d row.number) rows titles
+
+-- the text is that of what was seen, and of what the server says beside it, of which the titles are those of the warnings that were seen
+pub record IsShown (d : DeskState) (line : ListLine) (v : SeenValue) (text : List ℕ) : Type 0 where
   pub beside : Beside
+  pub titles : AreTitles d (warnings_in v) beside.titles.items
   pub is : text ≡ list_text beside line v
 
 -- it was seen in one centre, that is at one moment
 pub record IsListed (d : DeskState) (line : ListLine) (text : List ℕ) : Type 0 where
   pub seen : Seen
   pub somewhere : IsSeenSomewhere d (question_of line) seen
-  pub is : IsShown line seen.value text
+  pub is : IsShown d line seen.value text
 
 -- the text is the cause for which the centre refuses the question
 pub record IsUnlisted (d : DeskState) (line : ListLine) (text : List ℕ) : Type 0 where

@@ -1,10 +1,11 @@
 -- What an operator is answered whose line is one of the console.
-use Rattle.std.specs.Prelude.{◌≡◌, ◌⊎◌}
+use Rattle.std.specs.Prelude.{◌≡◌, ◌⊎◌, ℕ, List}
 use Rattle.centre_events.specs.declared.event.Event.TheVariants as event
 use Rattle.centre_events.specs.declared.refusal.Refusal.TheVariants as refusal
 use Rattle.centre_questions.specs.declared.question.Question.{Question}
 use Rattle.centre_questions.specs.declared.question.Question.TheVariants as question
 use Rattle.console_text.specs.Events.{line_edit}
+use Rattle.console_text.specs.Texts.{response_text}
 use Rattle.console_text.specs.declared.line.Line.{Line}
 use Rattle.console_text.specs.declared.line.Line.TheVariants as line
 use Rattle.console_text.specs.declared.line_edit.LineEdit.{LineEdit}
@@ -14,7 +15,8 @@ use Rattle.console_text.specs.declared.response.Response.TheVariants as response
 use Rattle.office.specs.Desks.{DeskState}
 use Rattle.office.specs.Offices.{IsRebuiltSomewhere, IsWrongDesk}
 use Rattle.server_operator.specs.Asking.{IsAskAnswer}
-use Rattle.server_operator.specs.Submitting.{IsSubmitAnswer}
+use Rattle.server_operator.specs.Submitting.{IsSubmitAnswer, IsTextOf}
+use Rattle.server_operator.specs.Telling.{IsEditText}
 
 -- the desk is as it was, and the question is answered so
 abbrev pub IsAsked : DeskState → Question → DeskState → Response → Type 0
@@ -37,12 +39,12 @@ IsOtherAnswer before line.Rebuild after r = IsRebuildAnswer before r × (after �
 IsOtherAnswer before line.Checkpoint after r = after ≡ before
 IsOtherAnswer before other after r = (r ≡ response.BadLine) × (after ≡ before)
 
--- how a line is answered that comes to that
-abbrev pub IsAnswerFor : DeskState → LineEdit → DeskState → Response → Type 0
-IsAnswerFor before (made.Edit change) after r = IsSubmitAnswer before (event.Edit change) after r
-IsAnswerFor before made.BadHex after r = (r ≡ response.BadHex) × (after ≡ before)
-IsAnswerFor before (made.Other l) after r = IsOtherAnswer before l after r
+-- what a line is answered that comes to that
+abbrev pub IsAnswerFor : DeskState → LineEdit → DeskState → List ℕ → Type 0
+IsAnswerFor before (made.Edit change) after text = IsEditText before change after text
+IsAnswerFor before made.BadHex after text = (text ≡ response_text response.BadHex) × (after ≡ before)
+IsAnswerFor before (made.Other l) after text = IsTextOf (IsOtherAnswer before l after) text
 
--- how the line is answered
-abbrev pub IsAnswer : DeskState → Line → DeskState → Response → Type 0
-IsAnswer before l after r = IsAnswerFor before (line_edit l) after r
+-- what the line is answered
+abbrev pub IsAnswer : DeskState → Line → DeskState → List ℕ → Type 0
+IsAnswer before l after text = IsAnswerFor before (line_edit l) after text

@@ -1,5 +1,5 @@
 -- What an operator is answered whose line submits an event.
-use Rattle.std.specs.Prelude.{◌≡◌, ◌⊎◌, ◌+◌, ℕ, length}
+use Rattle.std.specs.Prelude.{◌≡◌, ◌⊎◌, ◌+◌, ℕ, List, length}
 use Rattle.centre_events.specs.declared.answer.Answer.{Answer}
 use Rattle.centre_events.specs.declared.answer.Answer.TheVariants as answer
 use Rattle.centre_events.specs.declared.event.Event.{Event}
@@ -7,6 +7,7 @@ use Rattle.centre_events.specs.declared.event.Event.TheVariants as event
 use Rattle.centre_events.specs.declared.refusal.Refusal.{Refusal}
 use Rattle.centre_past.specs.Legal.{all_entries}
 use Rattle.centre_questions.specs.declared.question.Question.TheVariants as question
+use Rattle.console_text.specs.Texts.{response_text}
 use Rattle.console_text.specs.declared.response.Response.{Response}
 use Rattle.console_text.specs.declared.response.Response.TheVariants as response
 use Rattle.office.specs.Desks.{DeskState}
@@ -58,3 +59,9 @@ pub record IsUncut (before : DeskState) (after : DeskState) (r : Response) : Typ
 -- how a line is answered that ends the link of a BSC
 abbrev pub IsCutAnswer : DeskState → ℕ → DeskState → Response → Type 0
 IsCutAnswer before b after r = IsCut before b after r ⊎ IsUncut before after r
+
+-- the text is that of such a response
+pub record IsTextOf (P : Response → Type 0) (text : List ℕ) : Type 0 where
+  pub response : Response
+  pub such : P response
+  pub is : text ≡ response_text response

@@ -1,9 +1,8 @@
 //! What lines are answered, by their octets.
 
 ghost use Rattle.std.specs.Prelude.{◌≡◌, IfOk, string_bytes};
-ghost use Rattle.server_operator.specs.Hearing.{IsBadAnswer, IsHeard, IsHeardAs, IsHeardIn, IsHeardOf, IsListed, IsSayAnswer, IsTextOf, IsWishAnswer, bad_line_text};
-ghost use Rattle.server_operator.specs.Responding.{IsAnswer};
-ghost use Rattle.server_operator.specs.Submitting.{IsCutAnswer};
+ghost use Rattle.server_operator.specs.Hearing.{IsBadAnswer, IsHeard, IsHeardAs, IsHeardIn, IsHeardOf, IsListed, IsSayAnswer, IsWishAnswer, bad_line_text};
+ghost use Rattle.server_operator.specs.Submitting.{IsCutAnswer, IsTextOf};
 
 use crate::heard::Heard;
 use crate::leaving::leaving_of;
@@ -13,12 +12,12 @@ use crate::responding::respond;
 use crate::said::Said;
 use crate::saying::said_of;
 use crate::server::Server;
-use crate::submitting::{cut, edit};
+use crate::submitting::cut;
+use crate::telling::edit_text;
 use cell_register::BscId;
 use centre_events::refusal::Refusal;
 use common::Cell;
 use console_text::answer_text::response_text;
-use console_text::line::Line;
 use console_text::response::Response;
 use console_text::word::Word;
 use console_text::words::{is_comment, split_words};
@@ -82,7 +81,7 @@ fn say<L: Ledger, S: Server, R: Wait + Clock>(
     ensures { IfOk result (λ text. IsSayAnswer desk.old line desk.new (string_bytes text)) }
 {
     match said_of(operator.alloc, line)? {
-        Said::Edit(change) => response_text(operator.alloc, edit(rt, operator, desk, change)),
+        Said::Edit(change) => edit_text(rt, operator, desk, change),
         Said::BadText => String::from_str(operator.alloc, "bad text\n"),
         Said::Unusual(number) => unusual_text(operator.alloc, number),
     }
@@ -99,20 +98,6 @@ fn cut_line<L: Ledger, S: Server, R: Wait>(
     ensures { IfOk result (λ text. IsTextOf (IsCutAnswer desk.old b desk.new) (string_bytes text)) }
 {
     response_text(operator.alloc, cut(rt, operator, desk, b))
-}
-
-/// Answers a line of the console.
-#[tactic(auto, using(crate::proofs::HearingLemmas::text_of))]
-fn console_line<L: Ledger, S: Server, R: Wait + Clock>(
-    rt: &R,
-    operator: &Operator<'_, L, S>,
-    desk: &mut Desk<L>,
-    line: Line,
-) -> Result<String, AllocError>
-    ensures { IfOk result (λ text. IsTextOf (IsAnswer desk.old line desk.new) (string_bytes text)) }
-{
-    let response = respond(rt, operator, desk, line)?;
-    response_text(operator.alloc, response)
 }
 
 /// What is answered to a line that has the fault.
@@ -151,7 +136,7 @@ fn hear_request<L: Ledger, S: Server, R: Wait + Clock>(
         ServerLine::Help => Ok(Heard::Answered(help_text(operator.alloc)?)),
         ServerLine::Text(line) => Ok(Heard::Answered(say(rt, operator, desk, line)?)),
         ServerLine::CutLink(b) => Ok(Heard::Answered(cut_line(rt, operator, desk, b)?)),
-        ServerLine::Centre(line) => Ok(Heard::Answered(console_line(rt, operator, desk, line)?)),
+        ServerLine::Centre(line) => Ok(Heard::Answered(respond(rt, operator, desk, line)?)),
         ServerLine::Quit | ServerLine::Shutdown | ServerLine::Watch => {
             Ok(Heard::Answered(bad_line_text(operator.alloc, &LineFault::NotHere)?))
         }

@@ -2,10 +2,11 @@
 //! together, before a read that may wait.
 //!
 //! Begin with `operator`, then `hearing`: what comes of a line by its octets. What a line of the console is answered is in `responding`:
-//! its event in `submitting`, its question in `asking`. The edits of lines with a text are in `saying`, the lists in
-//! `listing`. How lines come in is in `reading` and `terminal`, how their answers are written in `delivering` and `batch`, and what is
-//! said of BSCs whose link is down in `downs`, and of BSCs of two repetition periods in `period_notices`. What is promised of the office
-//! stands in `office`, what a line is in `server_lines`, and what its answer is in `console_text`.
+//! its event in `submitting`, its question in `asking`, and what is told of an edit that was accepted in `telling`. The edits of lines
+//! with a text are in `saying`, the lists in `listing`. How lines come in is in `reading` and `terminal`, how their answers are written
+//! in `delivering` and `batch`, and what is said of BSCs whose link is down in `downs`, and of BSCs of two repetition periods in
+//! `period_notices`. What is promised of the office stands in `office`, what a line is in `server_lines`, and what its answer is in
+//! `console_text`.
 #![tactic(auto)]
 
 mod air;
@@ -26,11 +27,15 @@ mod reading;
 mod responding;
 mod said;
 mod saying;
+mod selecting;
 mod sequel;
 mod server;
+mod subject;
 mod submitting;
+mod telling;
 mod terminal;
 mod timed_input;
+mod titles;
 mod typing;
 
 pub use air::Air;

@@ -116,7 +116,7 @@ pub(crate) fn list_text(
         ListLine::Cells(b) => cells_text(alloc, *b, cells_in(value)),
         ListLine::Areas => areas_text(alloc, areas_in(value)),
         ListLine::Area(name) => area_text(alloc, name, selectors_in(value)),
-        ListLine::Warnings => warnings_text(alloc, warnings_in(value)),
+        ListLine::Warnings => warnings_text(alloc, warnings_in(value), beside.titles.as_slice()),
         ListLine::Warning(_) => sheet_in(alloc, beside, value),
         ListLine::Failed(_) => failed_text(alloc, failed_in(value)),
     }

@@ -1,15 +1,16 @@
 //! Lists that an operator asks for. What a list shows is a picture of one moment: the question is put under the office's lock, and its
-//! answer is printed when the lock is free again.
+//! answer is printed when the lock is free again. The titles of warnings alone are asked for after it, one after another.
 
 ghost use Rattle.std.specs.Prelude.{◌≡◌, IfOk, string_bytes};
 ghost use Rattle.console_text.specs.Texts.{refused_text};
-ghost use Rattle.server_operator.specs.Listing.{IsListAnswer, IsShown, IsStatusAnswer, list_text};
+ghost use Rattle.server_operator.specs.Listing.{AreTitles, IsListAnswer, IsShown, IsStatusAnswer, list_text, warnings_in};
 
 use crate::air::Air;
 use crate::beside::Beside;
-use crate::listed::{list_text, question_of};
+use crate::listed::{list_text, question_of, warnings_in};
 use crate::operator::Operator;
 use crate::server::Server;
+use crate::titles::titles_of;
 use cell_register::BscId;
 use centre_events::refusal::Refusal;
 use common::Octets;
@@ -74,13 +75,18 @@ fn shown_air<L: Ledger, S: Server, R: Wait + Clock>(
 fn said_beside<L: Ledger, S: Server, R: Wait + Clock>(
     rt: &R,
     operator: &Operator<'_, L, S>,
+    desk: &Desk<L>,
     line: &ListLine,
     value: &SeenValue,
-) -> Result<Beside, AllocError> {
+) -> Result<Beside, AllocError>
+    ensures { IfOk result (λ beside. AreTitles desk.now (warnings_in value.now) beside.titles.items) }
+{
     let resets = shown_resets(rt, operator, line)?;
+    let titles = titles_of(rt, operator, desk, warnings_in(value))?;
     let Air { silent, over } = shown_air(rt, operator, value)?;
     Ok(Beside {
         resets,
+        titles,
         silent,
         over,
     })
@@ -104,12 +110,13 @@ fn seen_octets(
 fn shown<L: Ledger, S: Server, R: Wait + Clock>(
     rt: &R,
     operator: &Operator<'_, L, S>,
+    desk: &Desk<L>,
     line: &ListLine,
     value: &SeenValue,
 ) -> Result<Octets, AllocError>
-    ensures { IfOk result (IsShown line.now value.now) }
+    ensures { IfOk result (IsShown desk.now line.now value.now) }
 {
-    let beside = said_beside(rt, operator, line, value)?;
+    let beside = said_beside(rt, operator, desk, line, value)?;
     seen_octets(operator.alloc, line, value, &beside)
 }
 
@@ -134,7 +141,7 @@ pub(crate) fn list<L: Ledger, S: Server, R: Wait + Clock>(
     let question = question_of(operator.alloc, line)?;
     match operator.office.look(rt, desk, question) {
         Ok(seen) => {
-            let text = shown(rt, operator, line, &seen.value);
+            let text = shown(rt, operator, desk, line, &seen.value);
             drop(seen);
             text
         }

@@ -53,7 +53,8 @@ pub(crate) fn is_other(period: u16, other: Option<u16>) -> bool
     }
 }
 
-fn selects(cell: Cell, selector: Selector) -> bool
+/// Whether the selector is the cell, or its location area.
+pub(crate) fn selects(cell: Cell, selector: Selector) -> bool
     ensures { result ≡ selects cell selector }
 {
     match selector {

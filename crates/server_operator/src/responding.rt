@@ -1,14 +1,16 @@
 //! What the lines of the console are answered.
 
-ghost use Rattle.std.specs.Prelude.{IfOk};
+ghost use Rattle.std.specs.Prelude.{IfOk, string_bytes};
 ghost use Rattle.console_text.specs.Texts.{ResponseFits};
 ghost use Rattle.server_operator.specs.Responding.{IsAnswer, IsOtherAnswer, IsRebuildAnswer};
 
 use crate::asking::ask;
 use crate::operator::Operator;
 use crate::server::Server;
-use crate::submitting::{edit, submit};
+use crate::submitting::submit;
+use crate::telling::edit_text;
 use centre_events::event::Event;
+use console_text::answer_text::response_text;
 use console_text::edits::edit_of;
 use console_text::line::Line;
 use console_text::line_edit::LineEdit;
@@ -72,18 +74,20 @@ fn respond_other<L: Ledger, S: Server, R: Wait>(
 }
 
 /// What a line of the console is answered.
+#[tactic(auto, using(crate::proofs::HearingLemmas::text_of))]
 pub(crate) fn respond<L: Ledger, S: Server, R: Wait + Clock>(
     rt: &R,
     operator: &Operator<'_, L, S>,
     desk: &mut Desk<L>,
     line: Line,
-) -> Result<Response, AllocError>
-    ensures answer { IfOk result (IsAnswer desk.old line desk.new) }
-    ensures fits { IfOk result ResponseFits }
+) -> Result<String, AllocError>
+    ensures { IfOk result (λ text. IsAnswer desk.old line desk.new (string_bytes text)) }
 {
     match edit_of(operator.alloc, line)? {
-        LineEdit::Edit(change) => Ok(edit(rt, operator, desk, change)),
-        LineEdit::BadHex => Ok(Response::BadHex),
-        LineEdit::Other(line) => Ok(respond_other(rt, operator, desk, line)),
+        LineEdit::Edit(change) => edit_text(rt, operator, desk, change),
+        LineEdit::BadHex => response_text(operator.alloc, Response::BadHex),
+        LineEdit::Other(line) => {
+            response_text(operator.alloc, respond_other(rt, operator, desk, line))
+        }
     }
 }

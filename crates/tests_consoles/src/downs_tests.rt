@@ -132,14 +132,14 @@ no 30 LinkNotUp
 ok 10
 ok 11
 ok 12
-ok 13
-ok 14 warning 2 serial C010
-ok 15
-ok 16 serial C001
-ok 17 warning 3 serial C020
-ok 18 serial C021
-ok 19
-ok 20
+ok 13 cells 1
+ok 14 warning 2 serial C010 cells 1 pages 1 coding 7-bit
+ok 15 warning 2 4370 0x1112 cells 1 text T
+ok 16 serial C001 cells 1 pages 1 coding 7-bit
+ok 17 warning 3 serial C020 cells 1 pages 1 coding 7-bit
+ok 18 serial C021 cells 1 pages 1 coding 7-bit
+ok 19 warning 3 4370 0x1112 cells 1 text T
+ok 20 warning 1 4370 0x1112 cells 1 text T
 no 17 NotActive
 no 16 NoSuchWarning
 no 3 NoSuchBsc

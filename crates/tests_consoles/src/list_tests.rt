@@ -185,7 +185,7 @@ areas 1
 area Coast 100/7,100/8,200
 selectors 3
 no 12 NoSuchArea
-warning 1 4370 0x1112 C000 active cbs areas Coast awaited 1 onair 0 failed 2 left 0 broadcasts 0
+warning 1 4370 0x1112 C000 active cbs areas Coast awaited 1 onair 0 failed 2 left 0 broadcasts 0 text Test
 warnings 1
 warning 1 4370 0x1112 C000 active cbs areas Coast awaited 1 onair 0 failed 2 left 0 broadcasts 0
 silent 100 7 at 1

@@ -28,28 +28,28 @@ warning 4
 
 /// What the operator is answered. Six entries were there before.
 const ANSWERS: &str = "\
-ok 7 warning 2 serial C000
+ok 7 warning 2 serial C000 cells 1 pages 1 coding 7-bit
 warning 2 4371 0x1113 C000 active cbs areas Coast awaited 1 onair 0 failed 0 left 0 broadcasts 0
 dcs 15 category 0 period 30
 text Test
 pages 1
-ok 8 serial C001
+ok 8 serial C001 cells 1 pages 1 coding 7-bit
 warning 2 4371 0x1113 C001 active cbs areas Coast awaited 1 onair 0 failed 0 left 0 broadcasts 0
 dcs 15 category 1 period 60
 text Flood
 text Go   up \\ [1] \n\
 pages 1
-ok 9 warning 3 serial C000
+ok 9 warning 3 serial C000 cells 1 pages 1 coding ucs2, since of 'Ł' at letter 1
 warning 3 4372 0x1114 C000 active cbs areas Coast awaited 1 onair 0 failed 0 left 0 broadcasts 0
 dcs 72 category 2 period 30
 text Łódź: 5 €
 pages 1
-ok 10 serial C001
+ok 10 serial C001 cells 1 pages 1 coding 7-bit
 warning 3 4372 0x1114 C001 active cbs areas Coast awaited 1 onair 0 failed 0 left 0 broadcasts 0
 dcs 15 category 0 period 30
 text #
 pages 1
-ok 11 warning 4 serial C000
+ok 11 warning 4 serial C000 cells 1 pages 1 coding 7-bit
 warning 4 4373 0x1115 C000 active cbs areas Coast awaited 1 onair 0 failed 0 left 0 broadcasts 0
 dcs 15 category 0 period 30
 text say 4373 3 0 30 Coast Test
@@ -92,31 +92,31 @@ unusual identifier 4358: an emergency, which alert sends; to say it all the same
 unusual identifier 1: nearest 4370; to say it all the same type !1
 unusual identifier 4369: nearest 4379, 4389, 4399; to say it all the same type !4369
 unusual identifier 50000: nearest 4399; to say it all the same type !50000
-ok 7 warning 2 serial C000
+ok 7 warning 2 serial C000 cells 1 pages 1 coding 7-bit
 warning 2 437 0x01B5 C000 active cbs areas Coast awaited 1 onair 0 failed 0 left 0 broadcasts 0
 dcs 15 category 0 period 30
 text Flood
 pages 1
-ok 8 warning 3 serial C000
+ok 8 warning 3 serial C000 cells 1 pages 1 coding 7-bit
 warning 3 4380 0x111C C000 active cbs areas Coast awaited 1 onair 0 failed 0 left 0 broadcasts 0
 dcs 15 category 0 period 30
 text Flood
 pages 1
-ok 9 warning 4 serial C000
+ok 9 warning 4 serial C000 cells 1 pages 1 coding 7-bit
 warning 4 4384 0x1120 C000 active cbs areas Coast awaited 1 onair 0 failed 0 left 0 broadcasts 0
 dcs 15 category 0 period 30
 text Flood
 pages 1
-ok 10 warning 5 serial C000
+ok 10 warning 5 serial C000 cells 1 pages 1 coding 7-bit
 warning 5 4352 0x1100 C000 active cbs areas Coast awaited 1 onair 0 failed 0 left 0 broadcasts 0
 dcs 15 category 0 period 30
 text Flood
 pages 1
-bad line
-bad line
-bad line
-bad line
-bad line
+bad line: word 2, IDENTIFIER: 'Test' is no number from 0 to 65535
+bad line: word 2, IDENTIFIER: '!test' is no number from 0 to 65535
+bad line: word 2, IDENTIFIER: '!' is no number from 0 to 65535
+bad line: word 2, IDENTIFIER: '!65536' is no number from 0 to 65535
+bad line: word 2, IDENTIFIER: '!!437' is no number from 0 to 65535
 ";
 
 /// Lines that are refused: words that are no line; a text that is Latin-1, that ends within a letter, that has a letter outside of
@@ -168,7 +168,7 @@ no 12 NoSuchArea
 no 21 NoAreas
 no 26 BadPeriod
 no 16 NoSuchWarning
-ok 7 warning 2 serial 4000
+ok 7 warning 2 serial 4000 cells 1
 no 27 WrongKind
 ";
 
@@ -237,7 +237,7 @@ fn counts<L: Ledger, R: Wait + Clock + Abort>(rt: &R, alloc: Global, blank: Blan
         &office,
         b"a",
         1395,
-        b"ok 7 warning 2 serial C000\n",
+        b"ok 7 warning 2 serial C000 cells 1 pages 15 coding 7-bit\n",
     );
     is_answered_of(
         rt,
@@ -245,7 +245,7 @@ fn counts<L: Ledger, R: Wait + Clock + Abort>(rt: &R, alloc: Global, blank: Blan
         &office,
         b"{",
         690,
-        b"ok 8 warning 3 serial C010\n",
+        b"ok 8 warning 3 serial C010 cells 1 pages 15 coding 7-bit\n",
     );
     is_answered_of(
         rt,
@@ -253,7 +253,7 @@ fn counts<L: Ledger, R: Wait + Clock + Abort>(rt: &R, alloc: Global, blank: Blan
         &office,
         b"\xc5\x81",
         615,
-        b"ok 9 warning 4 serial C020\n",
+        b"ok 9 warning 4 serial C020 cells 1 pages 15 coding ucs2, since of '\xc5\x81' at letter 1\n",
     );
 }
 

@@ -120,7 +120,7 @@ const SAID: &[Kept] = &[
                 0,
             )],
             answers: Wanted::Is(
-                "ok 1\nok 2 warning 1 serial C000\nok 3 serial C001\nok 4 serial C002\nsettled 4\n",
+                "ok 1\nok 2 warning 1 serial C000 cells 0: NOBODY pages 1 coding 7-bit\nok 3 serial C001 cells 0: NOBODY pages 1 coding ucs2, since of 'Ł' at letter 1\nok 4 serial C002 cells 0: NOBODY pages 1 coding 7-bit\nsettled 4\n",
             ),
             ..USUAL
         },

@@ -96,7 +96,10 @@ const WITHOUT_A_PORT: Kept = Kept {
         words: &["--keep", "journal-of-two-ports"],
         acts: &[
             Act::Types("board 1\n", ON_AIR),
-            Act::Types("stop 1\n", "ok 11\n"),
+            Act::Types(
+                "stop 1\n",
+                "ok 11 warning 1 4370 0x1112 cells 1 text Test\n",
+            ),
             Act::Lines("quit\n", 0),
         ],
         answers: Wanted::Is("settled 11\n"),
