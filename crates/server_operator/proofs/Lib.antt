@@ -1,8 +1,10 @@
 pub mod AskingLemmas
 pub mod BatchLemmas
+pub mod DoubtLemmas
 pub mod HearingLemmas
 pub mod ListingLemmas
 pub mod PartLemmas
+pub mod SayingLemmas
 pub mod SelectingLemmas
 pub mod SubmittingLemmas
 pub mod TellingLemmas

@@ -1,5 +1,5 @@
 -- What comes of a line of an operator.
-use Rattle.std.specs.Prelude.{◌≡◌, ◌⊎◌, ◌++◌, ℕ, Bool, List, [], ◌∷◌, Option, Some, None, MatchBool, MatchOption, codes, string_bytes}
+use Rattle.std.specs.Prelude.{◌≡◌, ◌⊎◌, ◌++◌, ℕ, Bool, true, false, List, [], ◌∷◌, Option, Some, None, MatchBool, MatchOption, codes, string_bytes}
 use Rattle.common.specs.declared.cell.Cell.{Cell}
 use Rattle.centre_events.specs.declared.refusal.Refusal.{Refusal}
 use Rattle.centre_events.specs.declared.refusal.Refusal.TheVariants as refusal
@@ -14,6 +14,7 @@ use Rattle.message_identifiers.specs.Texts.{unusual_text}
 use Rattle.office.specs.Desks.{DeskState}
 use Rattle.office.specs.Wishes.{IsUnwishedSomewhere, IsWishedSomewhere}
 use Rattle.server_lines.specs.ServerGrammar.{server_line_of}
+use Rattle.server_lines.specs.TextGrammar.{behind_mark}
 use Rattle.server_lines.specs.declared.list_line.ListLine.{ListLine}
 use Rattle.server_lines.specs.declared.server_line.ServerLine.{ServerLine}
 use Rattle.server_lines.specs.declared.server_line.ServerLine.TheVariants as line
@@ -21,7 +22,7 @@ use Rattle.server_lines.specs.declared.text_line.TextLine.{TextLine}
 use Rattle.server_operator.specs.Leavings.{leaving_of}
 use Rattle.server_operator.specs.Listing.{IsListAnswer, IsStatusAnswer}
 use Rattle.server_operator.specs.Responding.{IsAnswer}
-use Rattle.server_operator.specs.Saying.{IsSaid}
+use Rattle.server_operator.specs.Saying.{IsSaid, short_text}
 use Rattle.server_operator.specs.Submitting.{IsCutAnswer, IsTextOf}
 use Rattle.server_operator.specs.Telling.{IsEditText}
 use Rattle.server_operator.specs.declared.heard.Heard.{Heard}
@@ -30,25 +31,34 @@ use Rattle.server_operator.specs.declared.said.Said.TheVariants as said
 use Rattle.server_operator.specs.declared.leaving.Leaving.{Leaving}
 
 -- a line with a text is answered as the edit is that it asks for
-pub record IsSayText (before : DeskState) (l : TextLine) (after : DeskState) (text : List ℕ) : Type 0 where
+pub record IsSayText (before : DeskState) (meant : Bool) (l : TextLine) (after : DeskState) (text : List ℕ) : Type 0 where
   pub change : EditOf
-  pub asks : IsSaid l (said.Edit change)
+  pub asks : IsSaid meant l (said.Edit change)
   pub answered : IsEditText before change after text
 
 -- or its text is bad
-abbrev pub IsBadTextAnswer : DeskState → TextLine → DeskState → List ℕ → Type 0
-IsBadTextAnswer before l after text = IsSaid l said.BadText × (text ≡ codes "bad text" ++ 10 ∷ []) × (after ≡ before)
+abbrev pub IsBadTextAnswer : DeskState → Bool → TextLine → DeskState → List ℕ → Type 0
+IsBadTextAnswer before meant l after text = IsSaid meant l said.BadText × (text ≡ codes "bad text" ++ 10 ∷ []) × (after ≡ before)
 
 -- or its message identifier is unusual
-pub record IsUnusualAnswer (before : DeskState) (l : TextLine) (after : DeskState) (text : List ℕ) : Type 0 where
+pub record IsUnusualAnswer (before : DeskState) (meant : Bool) (l : TextLine) (after : DeskState) (text : List ℕ) : Type 0 where
   pub number : ℕ
-  pub unusual : IsSaid l (said.Unusual number)
+  pub unusual : IsSaid meant l (said.Unusual number)
   pub is : text ≡ unusual_text number
   pub unchanged : after ≡ before
 
+-- or its period is too short for its pages
+pub record IsShortAnswer (before : DeskState) (meant : Bool) (l : TextLine) (after : DeskState) (text : List ℕ) : Type 0 where
+  pub period : ℕ
+  pub pages : ℕ
+  pub short : IsSaid meant l (said.Short period pages)
+  pub is : text ≡ short_text period pages
+  pub unchanged : after ≡ before
+
 -- what a line with a text is answered
-abbrev pub IsSayAnswer : DeskState → TextLine → DeskState → List ℕ → Type 0
-IsSayAnswer before l after text = IsSayText before l after text ⊎ (IsBadTextAnswer before l after text ⊎ IsUnusualAnswer before l after text)
+abbrev pub IsSayAnswer : DeskState → Bool → TextLine → DeskState → List ℕ → Type 0
+IsSayAnswer before meant l after text =
+    IsSayText before meant l after text ⊎ (IsBadTextAnswer before meant l after text ⊎ (IsUnusualAnswer before meant l after text ⊎ IsShortAnswer before meant l after text))
 
 -- the wish is kept, with the cell after which it asks, or the text is the cause for which it isn't
 pub record IsUnwished (b w : ℕ) (text : List ℕ) : Type 0 where
@@ -80,41 +90,46 @@ pub record IsBadAnswer (octets text : List ℕ) : Type 0 where
   pub such : IsFault octets fault
   pub is : text ≡ bad_line_text fault
 
--- what comes of a line that ends nothing
-abbrev pub IsHeardAs : DeskState → ServerLine → DeskState → Heard → Type 0
-IsHeardAs before (line.Wish b w after_cell) after h = IsAnswered (IsWishAnswer b w after_cell) h × (after ≡ before)
-IsHeardAs before line.Peers after h = IsAnswered (λ text. Unit {0}) h × (after ≡ before)
-IsHeardAs before line.Status after h = IsAnswered (IsStatusAnswer before) h × (after ≡ before)
-IsHeardAs before line.Help after h = IsAnswered (λ text. Unit {0}) h × (after ≡ before)
-IsHeardAs before (line.List l) after h = IsListed before l h × (after ≡ before)
-IsHeardAs before (line.Text l) after h = IsAnswered (IsSayAnswer before l after) h
-IsHeardAs before (line.CutLink b) after h = IsAnswered (IsTextOf (IsCutAnswer before b after)) h
-IsHeardAs before (line.Centre l) after h = IsAnswered (IsAnswer before l after) h
-IsHeardAs before other after h = IsAnswered (λ text. text ≡ bad_line_text fault.NotHere) h × (after ≡ before)
+-- what comes of a line that ends nothing, and is meant as it is typed or not
+abbrev pub IsHeardAs : DeskState → Bool → ServerLine → DeskState → Heard → Type 0
+IsHeardAs before meant (line.Wish b w after_cell) after h = IsAnswered (IsWishAnswer b w after_cell) h × (after ≡ before)
+IsHeardAs before meant line.Peers after h = IsAnswered (λ text. Unit {0}) h × (after ≡ before)
+IsHeardAs before meant line.Status after h = IsAnswered (IsStatusAnswer before) h × (after ≡ before)
+IsHeardAs before meant line.Help after h = IsAnswered (λ text. Unit {0}) h × (after ≡ before)
+IsHeardAs before meant (line.List l) after h = IsListed before l h × (after ≡ before)
+IsHeardAs before meant (line.Text l) after h = IsAnswered (IsSayAnswer before meant l after) h
+IsHeardAs before meant (line.CutLink b) after h = IsAnswered (IsTextOf (IsCutAnswer before b after)) h
+IsHeardAs before meant (line.Centre l) after h = IsAnswered (IsAnswer before meant l after) h
+IsHeardAs before meant other after h = IsAnswered (λ text. text ≡ bad_line_text fault.NotHere) h × (after ≡ before)
 
 -- the line ends the lines so
 abbrev pub IsLeft : DeskState → DeskState → Heard → Leaving → Type 0
 IsLeft before after h leaving = (h ≡ heard.Left leaving) × (after ≡ before)
 
 -- what comes of the line, where the operator may follow the journal or not
-abbrev pub IsHeard : DeskState → Bool → ServerLine → DeskState → Heard → Type 0
-IsHeard before may_watch l after h = MatchOption (leaving_of l may_watch) (IsHeardAs before l after h) (IsLeft before after h)
+abbrev pub IsHeard : DeskState → Bool → Bool → ServerLine → DeskState → Heard → Type 0
+IsHeard before may_watch meant l after h = MatchOption (leaving_of l may_watch) (IsHeardAs before meant l after h) (IsLeft before after h)
 
 -- what comes of octets that are that line, or a bad one
-abbrev pub IsHeardIf : DeskState → Bool → List ℕ → Option ServerLine → DeskState → Heard → Type 0
-IsHeardIf before may_watch octets None after h = IsAnswered (IsBadAnswer octets) h × (after ≡ before)
-IsHeardIf before may_watch octets (Some l) after h = IsHeard before may_watch l after h
+abbrev pub IsHeardIf : DeskState → Bool → Bool → List ℕ → Option ServerLine → DeskState → Heard → Type 0
+IsHeardIf before may_watch meant octets None after h = IsAnswered (IsBadAnswer octets) h × (after ≡ before)
+IsHeardIf before may_watch meant octets (Some l) after h = IsHeard before may_watch meant l after h
 
 -- nothing is answered
 abbrev pub IsUnheard : DeskState → DeskState → Heard → Type 0
 IsUnheard before after h = IsAnswered (λ text. text ≡ []) h × (after ≡ before)
 
 -- what comes of octets that have these words; a line without words and a comment are answered nothing
-abbrev pub IsHeardIn : DeskState → Bool → List ℕ → List (List ℕ) → DeskState → Heard → Type 0
-IsHeardIn before may_watch octets [] after h = IsUnheard before after h
-IsHeardIn before may_watch octets (first ∷ words) after h =
-    MatchBool (is_comment first) (IsUnheard before after h) (IsHeardIf before may_watch octets (server_line_of octets (first ∷ words)) after h)
+abbrev pub IsHeardIn : DeskState → Bool → Bool → List ℕ → List (List ℕ) → DeskState → Heard → Type 0
+IsHeardIn before may_watch meant octets [] after h = IsUnheard before after h
+IsHeardIn before may_watch meant octets (first ∷ words) after h =
+    MatchBool (is_comment first) (IsUnheard before after h) (IsHeardIf before may_watch meant octets (server_line_of octets (first ∷ words)) after h)
+
+-- what comes of octets behind which these stand after a `!`, if it is their first: they are meant as they are typed
+abbrev pub IsHeardBehind : DeskState → Bool → List ℕ → Option (List ℕ) → DeskState → Heard → Type 0
+IsHeardBehind before may_watch octets None after h = IsHeardIn before may_watch false octets (words_of octets) after h
+IsHeardBehind before may_watch octets (Some rest) after h = IsHeardIn before may_watch true rest (words_of rest) after h
 
 -- what comes of a line of these octets
 abbrev pub IsHeardOf : DeskState → Bool → List ℕ → DeskState → Heard → Type 0
-IsHeardOf before may_watch octets after h = IsHeardIn before may_watch octets (words_of octets) after h
+IsHeardOf before may_watch octets after h = IsHeardBehind before may_watch octets (behind_mark octets) after h

@@ -1,5 +1,6 @@
 pub mod Asking
 pub mod Batches
+pub mod Doubts
 pub mod Downs
 pub mod Hearing
 pub mod Leavings

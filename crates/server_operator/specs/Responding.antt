@@ -1,5 +1,5 @@
 -- What an operator is answered whose line is one of the console.
-use Rattle.std.specs.Prelude.{◌≡◌, ◌⊎◌, ℕ, List}
+use Rattle.std.specs.Prelude.{◌≡◌, ◌⊎◌, ℕ, Bool, List}
 use Rattle.centre_events.specs.declared.event.Event.TheVariants as event
 use Rattle.centre_events.specs.declared.refusal.Refusal.TheVariants as refusal
 use Rattle.centre_questions.specs.declared.question.Question.{Question}
@@ -15,8 +15,8 @@ use Rattle.console_text.specs.declared.response.Response.TheVariants as response
 use Rattle.office.specs.Desks.{DeskState}
 use Rattle.office.specs.Offices.{IsRebuiltSomewhere, IsWrongDesk}
 use Rattle.server_operator.specs.Asking.{IsAskAnswer}
+use Rattle.server_operator.specs.Doubts.{IsEditAnswer}
 use Rattle.server_operator.specs.Submitting.{IsSubmitAnswer, IsTextOf}
-use Rattle.server_operator.specs.Telling.{IsEditText}
 
 -- the desk is as it was, and the question is answered so
 abbrev pub IsAsked : DeskState → Question → DeskState → Response → Type 0
@@ -39,12 +39,12 @@ IsOtherAnswer before line.Rebuild after r = IsRebuildAnswer before r × (after �
 IsOtherAnswer before line.Checkpoint after r = after ≡ before
 IsOtherAnswer before other after r = (r ≡ response.BadLine) × (after ≡ before)
 
--- what a line is answered that comes to that
-abbrev pub IsAnswerFor : DeskState → LineEdit → DeskState → List ℕ → Type 0
-IsAnswerFor before (made.Edit change) after text = IsEditText before change after text
-IsAnswerFor before made.BadHex after text = (text ≡ response_text response.BadHex) × (after ≡ before)
-IsAnswerFor before (made.Other l) after text = IsTextOf (IsOtherAnswer before l after) text
+-- what a line is answered that comes to that, and is meant as it is typed or not
+abbrev pub IsAnswerFor : DeskState → Bool → LineEdit → DeskState → List ℕ → Type 0
+IsAnswerFor before meant (made.Edit change) after text = IsEditAnswer before meant change after text
+IsAnswerFor before meant made.BadHex after text = (text ≡ response_text response.BadHex) × (after ≡ before)
+IsAnswerFor before meant (made.Other l) after text = IsTextOf (IsOtherAnswer before l after) text
 
 -- what the line is answered
-abbrev pub IsAnswer : DeskState → Line → DeskState → List ℕ → Type 0
-IsAnswer before l after text = IsAnswerFor before (line_edit l) after text
+abbrev pub IsAnswer : DeskState → Bool → Line → DeskState → List ℕ → Type 0
+IsAnswer before meant l after text = IsAnswerFor before meant (line_edit l) after text

@@ -1,5 +1,5 @@
 -- What a line with a text comes to: the edit that it asks for, or why it asks for none.
-use Rattle.std.specs.Prelude.{◌≡◌, ◌⊎◌, ℕ, Bool, true, false, ◌==◌, ◌≤◌, ◌&&◌, not, List, [], ◌∷◌, length, Option, Some, None, MatchBool, MatchOption, if◌then◌else◌}
+use Rattle.std.specs.Prelude.{◌≡◌, ◌⊎◌, ℕ, Bool, true, false, ◌==◌, ◌≤◌, ◌&&◌, ◌||◌, not, nat_lt, List, [], ◌∷◌, ◌++◌, codes, decimal, length, Option, Some, None, MatchBool, MatchOption, if◌then◌else◌}
 use Rattle.std.specs.List.{AllByRecursion}
 use Rattle.std.specs.Option.{option_map, IfSome}
 use Rattle.std.specs.Str.{chars}
@@ -14,6 +14,8 @@ use Rattle.server_lines.specs.declared.said_identifier.SaidIdentifier.{SaidIdent
 use Rattle.server_lines.specs.declared.text_heading.TextHeading.{TextHeading}
 use Rattle.server_lines.specs.declared.text_line.TextLine.{TextLine}
 use Rattle.server_lines.specs.declared.text_line.TextLine.TheVariants as line
+use Rattle.server_operator.specs.declared.made.Made.{Made}
+use Rattle.server_operator.specs.declared.made.Made.TheVariants as made
 use Rattle.server_operator.specs.declared.said.Said.{Said}
 use Rattle.server_operator.specs.declared.said.Said.TheVariants as said
 use Rattle.warning_book.specs.declared.content.Content.{Content}
@@ -71,32 +73,82 @@ abbrev pub IsSaidContent : TextHeading → List ℕ → Content → Type 0
 IsSaidContent h typed (content.Cbs c) = (c.category ≡ h.category) × (c.period ≡ h.period) × ArePagesTyped typed c.dcs c.pages
 IsSaidContent h typed (content.Emergency c) = ⊥
 
--- a warning is issued
-abbrev pub IsSaidIssue : SaidHeading → List (List ℕ) → List ℕ → EditOf → Type 0
-IsSaidIssue h areas typed (edit.Issue notice names) =
-    (notice.message_id ≡ h.identifier.number) × (notice.scope ≡ h.scope) × (names ≡ areas) × IsSaidContent h.content typed notice.content
-IsSaidIssue h areas typed other = ⊥
+-- the least period for so many pages, in units of 1.883 s: each page takes about one such unit on air (TS 23.041), and with less than
+-- ten a page takes more than a tenth of the channel
+abbrev pub least_period : ℕ → ℕ
+least_period pages = if nat_lt pages 10 then 10 else pages
+
+-- the period is shorter, and isn't meant as it is typed; the centre refuses a period of 0
+abbrev pub is_short : Bool → ℕ → ℕ → Bool
+is_short meant period pages = not meant && (nat_lt 0 period && nat_lt period (least_period pages))
+
+-- how many pages a content has
+abbrev pub page_count : Content → ℕ
+page_count (content.Cbs c) = length c.pages
+page_count (content.Emergency e) = 0
+
+-- the period is too short for the pages of the text that was typed
+pub record IsShortFor (meant : Bool) (h : TextHeading) (typed : List ℕ) (period count : ℕ) : Type 0 where
+  pub dcs : ℕ
+  pub pages : List (List ℕ)
+  pub typed_pages : ArePagesTyped typed dcs pages
+  pub counted : count ≡ length pages
+  pub same : period ≡ h.period
+  pub short : is_short meant period count ≡ true
+
+-- what is made of the text that was typed
+abbrev pub IsMade : Bool → TextHeading → List ℕ → Made → Type 0
+IsMade meant h typed (made.Content c) = IsSaidContent h typed c × (is_short meant h.period (page_count c) ≡ false)
+IsMade meant h typed made.BadText = IsBadText typed
+IsMade meant h typed (made.Short period pages) = IsShortFor meant h typed period pages
+
+-- a warning is issued with content of which that is made
+abbrev pub IsSaidIssue : Bool → SaidHeading → List (List ℕ) → List ℕ → EditOf → Type 0
+IsSaidIssue meant h areas typed (edit.Issue notice names) =
+    (notice.message_id ≡ h.identifier.number) × (notice.scope ≡ h.scope) × (names ≡ areas) × IsMade meant h.content typed (made.Content notice.content)
+IsSaidIssue meant h areas typed other = ⊥
 
 -- a warning is updated
-abbrev pub IsSaidUpdate : ℕ → TextHeading → List ℕ → EditOf → Type 0
-IsSaidUpdate warning h typed (edit.Update number version) = (number ≡ warning) × IsSaidContent h typed version
-IsSaidUpdate warning h typed other = ⊥
+abbrev pub IsSaidUpdate : Bool → ℕ → TextHeading → List ℕ → EditOf → Type 0
+IsSaidUpdate meant warning h typed (edit.Update number version) = (number ≡ warning) × IsMade meant h typed (made.Content version)
+IsSaidUpdate meant warning h typed other = ⊥
 
--- the edit is that one, or the text is bad
-abbrev pub IsSaidBy : (EditOf → Type 0) → List ℕ → Said → Type 0
-IsSaidBy IsEdit typed (said.Edit change) = IsEdit change
-IsSaidBy IsEdit typed said.BadText = IsBadText typed
-IsSaidBy IsEdit typed (said.Unusual n) = ⊥
+-- the edit is that one, or the text is bad, or the period is too short
+abbrev pub IsSaidBy : (EditOf → Type 0) → Bool → TextHeading → List ℕ → Said → Type 0
+IsSaidBy IsEdit meant h typed (said.Edit change) = IsEdit change
+IsSaidBy IsEdit meant h typed said.BadText = IsBadText typed
+IsSaidBy IsEdit meant h typed (said.Unusual n) = ⊥
+IsSaidBy IsEdit meant h typed (said.Short period pages) = IsShortFor meant h typed period pages
 
 -- what a line comes to that issues a warning
-abbrev pub IsIssueSaid : SaidHeading → List (List ℕ) → List ℕ → Said → Type 0
-IsIssueSaid h areas typed found = IsSaidBy (IsSaidIssue h areas typed) typed found
+abbrev pub IsIssueSaid : Bool → SaidHeading → List (List ℕ) → List ℕ → Said → Type 0
+IsIssueSaid meant h areas typed found = IsSaidBy (IsSaidIssue meant h areas typed) meant h.content typed found
 
--- the identifier is none of warnings with a text, and isn't meant as it is typed
-abbrev pub is_unusual : SaidIdentifier → Bool
-is_unusual i = not i.is_meant && not (is_text (usage_of i.number))
+-- what a line comes to that updates one
+abbrev pub IsUpdateSaid : Bool → ℕ → TextHeading → List ℕ → Said → Type 0
+IsUpdateSaid meant warning h typed found = IsSaidBy (IsSaidUpdate meant warning h typed) meant h typed found
+
+-- the identifier is none of warnings with a text, and neither it nor its line is meant as it is typed
+abbrev pub is_unusual : Bool → SaidIdentifier → Bool
+is_unusual meant i = not (meant || i.is_meant) && not (is_text (usage_of i.number))
 
 -- what the line comes to: nothing is issued with an unusual identifier, whatever its text is
-abbrev pub IsSaid : TextLine → Said → Type 0
-IsSaid (line.Say h areas typed) found = MatchBool (is_unusual h.identifier) (found ≡ said.Unusual h.identifier.number) (IsIssueSaid h areas typed found)
-IsSaid (line.Resay warning h typed) found = IsSaidBy (IsSaidUpdate warning h typed) typed found
+abbrev pub IsSaid : Bool → TextLine → Said → Type 0
+IsSaid meant (line.Say h areas typed) found = MatchBool (is_unusual meant h.identifier) (found ≡ said.Unusual h.identifier.number) (IsIssueSaid meant h areas typed found)
+IsSaid meant (line.Resay warning h typed) found = IsUpdateSaid meant warning h typed found
+
+-- how a line is said all the same that may be a slip
+abbrev pub say_hint : List ℕ
+say_hint = codes "to say it all the same type ! before the line"
+
+-- that a period is too short, and the least one
+abbrev pub short_front : ℕ → ℕ → List ℕ
+short_front period least = codes "unusual period " ++ (decimal period ++ (codes ": at least " ++ decimal least))
+
+-- for how many pages that is so
+abbrev pub short_pages : ℕ → List ℕ
+short_pages pages = codes " with pages " ++ (decimal pages ++ codes ", in units of 1.883 s; ")
+
+-- the answer to a line whose period is too short for so many pages
+abbrev pub short_text : ℕ → ℕ → List ℕ
+short_text period pages = short_front period (least_period pages) ++ (short_pages pages ++ (say_hint ++ 10 ∷ []))

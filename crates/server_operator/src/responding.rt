@@ -5,10 +5,10 @@ ghost use Rattle.console_text.specs.Texts.{ResponseFits};
 ghost use Rattle.server_operator.specs.Responding.{IsAnswer, IsOtherAnswer, IsRebuildAnswer};
 
 use crate::asking::ask;
+use crate::doubts::edit_answer;
 use crate::operator::Operator;
 use crate::server::Server;
 use crate::submitting::submit;
-use crate::telling::edit_text;
 use centre_events::event::Event;
 use console_text::answer_text::response_text;
 use console_text::edits::edit_of;
@@ -73,18 +73,19 @@ fn respond_other<L: Ledger, S: Server, R: Wait>(
     }
 }
 
-/// What a line of the console is answered.
+/// What a line of the console is answered, which is meant as it is typed or not.
 #[tactic(auto, using(crate::proofs::HearingLemmas::text_of))]
 pub(crate) fn respond<L: Ledger, S: Server, R: Wait + Clock>(
     rt: &R,
     operator: &Operator<'_, L, S>,
     desk: &mut Desk<L>,
     line: Line,
+    is_meant: bool,
 ) -> Result<String, AllocError>
-    ensures { IfOk result (λ text. IsAnswer desk.old line desk.new (string_bytes text)) }
+    ensures { IfOk result (λ text. IsAnswer desk.old is_meant line desk.new (string_bytes text)) }
 {
     match edit_of(operator.alloc, line)? {
-        LineEdit::Edit(change) => edit_text(rt, operator, desk, change),
+        LineEdit::Edit(change) => edit_answer(rt, operator, desk, change, is_meant),
         LineEdit::BadHex => response_text(operator.alloc, Response::BadHex),
         LineEdit::Other(line) => {
             response_text(operator.alloc, respond_other(rt, operator, desk, line))

@@ -10,4 +10,6 @@ pub(crate) enum Said {
     BadText,
     /// Its message identifier is none of warnings with a text, and not meant as it is typed.
     Unusual(u16),
+    /// Its repetition period is too short for so many pages, and not meant as it is typed.
+    Short(u16, usize),
 }

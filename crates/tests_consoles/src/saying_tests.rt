@@ -119,6 +119,42 @@ bad line: word 2, IDENTIFIER: '!65536' is no number from 0 to 65535
 bad line: word 2, IDENTIFIER: '!!437' is no number from 0 to 65535
 ";
 
+/// Lines that may be slips: emergency warnings under an identifier of a text and under one that isn't assigned, and periods that are too
+/// short, for one page and for twelve. Then the same as they are meant, lines that are no slip, and a `!` before nothing, before a comment
+/// and before no line.
+const SLIPS: &str = "\
+alert 4370 1 1 1408 0 - Coast
+alert 437 1 1 1408 0 - Coast
+say 4370 3 0 3 Coast Flood
+say 4370 3 0 9 Coast Flood
+resay 1 0 9 Flood
+!alert 4370 1 1 1408 0 - Coast
+!say 437 3 0 3 Coast Flood
+!resay 1 0 9 Flood
+say 4370 3 0 10 Coast Flood
+alert 4359 1 1 1408 0 - Coast
+!
+!# nothing
+!what
+!say 4370 3 0 0 Coast Flood
+";
+
+/// What the operator is answered. Six entries were there before, and what may be a slip enters nothing.
+const SLIPS_ASKED: &str = "\
+unusual identifier 4370: alert-1, which say sends; to alert all the same type ! before the line
+unusual identifier 437: emergencies have 4352 to 4356; to alert all the same type ! before the line
+unusual period 3: at least 10 with pages 1, in units of 1.883 s; to say it all the same type ! before the line
+unusual period 9: at least 10 with pages 1, in units of 1.883 s; to say it all the same type ! before the line
+unusual period 9: at least 10 with pages 1, in units of 1.883 s; to say it all the same type ! before the line
+ok 7 warning 2 serial 4010 cells 1
+ok 8 warning 3 serial C000 cells 1 pages 1 coding 7-bit
+ok 9 serial C001 cells 1 pages 1 coding 7-bit
+ok 10 warning 4 serial C020 cells 1 pages 1 coding 7-bit
+ok 11 warning 5 serial 4000 cells 1
+bad line: no line begins with 'what'; help lists all lines
+no 26 BadPeriod
+";
+
 /// Lines that are refused: words that are no line; a text that is Latin-1, that ends within a letter, that has a letter outside of
 /// UCS2, a control letter, a carriage return, a backslash before another letter or at the end; and what the centre refuses.
 const BAD_LINES: &[u8] = b"\
@@ -205,21 +241,43 @@ fn asks_about_slips<L: Ledger, R: Wait + Clock + Abort>(rt: &R, alloc: Global, b
     );
 }
 
+fn asks_about_more_slips<L: Ledger, R: Wait + Clock + Abort>(rt: &R, alloc: Global, blank: Blank)
+    requires name { blank.name ≡ L.name }
+    requires parts { blank.parts ≡ L.parts }
+    requires desks { blank.parts ≡ 1025 }
+{
+    let (office, _) = linked::<L, R>(rt, alloc, blank, 1000);
+    is_answered(rt, alloc, &office, SLIPS.as_bytes(), SLIPS_ASKED.as_bytes());
+    is_answered_of(
+        rt,
+        alloc,
+        &office,
+        b"say 4371 3 0 11 Coast ",
+        b"a",
+        1100,
+        b"unusual period 11: at least 12 with pages 12, in units of 1.883 s; to say it all the same type ! before the line\n",
+    );
+}
+
 /// A text of so many times the letter is answered so.
 fn is_answered_of<L: Ledger, R: Wait + Clock + Abort>(
     rt: &R,
     alloc: Global,
     office: &Office<L>,
+    front: &[u8],
     letter: &[u8],
     count: u32,
     answer: &[u8],
 ) {
-    let mut line = Vec::from_slice(alloc, b"say 4371 3 0 30 Coast ").expect(rt, "memory");
+    let mut line = Vec::from_slice(alloc, front).expect(rt, "memory");
     for _turn in 0..count {
         line.extend_from_slice(letter).expect(rt, "memory");
     }
     is_answered(rt, alloc, office, line.as_slice(), answer);
 }
+
+/// What stands in front of a text.
+const FRONT: &[u8] = b"say 4371 3 0 30 Coast ";
 
 /// Fifteen pages have 93 septets each or 41 letters in UCS2, and a letter of the extension table isn't cut.
 fn counts<L: Ledger, R: Wait + Clock + Abort>(rt: &R, alloc: Global, blank: Blank)
@@ -228,13 +286,22 @@ fn counts<L: Ledger, R: Wait + Clock + Abort>(rt: &R, alloc: Global, blank: Blan
     requires desks { blank.parts ≡ 1025 }
 {
     let (office, _) = linked::<L, R>(rt, alloc, blank, 1000);
-    is_answered_of(rt, alloc, &office, b"a", 1396, b"no 25 BadPages\n");
-    is_answered_of(rt, alloc, &office, b"{", 691, b"no 25 BadPages\n");
-    is_answered_of(rt, alloc, &office, b"\xc5\x81", 616, b"no 25 BadPages\n");
+    is_answered_of(rt, alloc, &office, FRONT, b"a", 1396, b"no 25 BadPages\n");
+    is_answered_of(rt, alloc, &office, FRONT, b"{", 691, b"no 25 BadPages\n");
     is_answered_of(
         rt,
         alloc,
         &office,
+        FRONT,
+        b"\xc5\x81",
+        616,
+        b"no 25 BadPages\n",
+    );
+    is_answered_of(
+        rt,
+        alloc,
+        &office,
+        FRONT,
         b"a",
         1395,
         b"ok 7 warning 2 serial C000 cells 1 pages 15 coding 7-bit\n",
@@ -243,6 +310,7 @@ fn counts<L: Ledger, R: Wait + Clock + Abort>(rt: &R, alloc: Global, blank: Blan
         rt,
         alloc,
         &office,
+        FRONT,
         b"{",
         690,
         b"ok 8 warning 3 serial C010 cells 1 pages 15 coding 7-bit\n",
@@ -251,6 +319,7 @@ fn counts<L: Ledger, R: Wait + Clock + Abort>(rt: &R, alloc: Global, blank: Blan
         rt,
         alloc,
         &office,
+        FRONT,
         b"\xc5\x81",
         615,
         b"ok 9 warning 4 serial C020 cells 1 pages 15 coding ucs2, since of '\xc5\x81' at letter 1\n",
@@ -270,6 +339,11 @@ fn lines_are_refused(rt: HostRuntime) {
 #[test]
 fn identifiers_that_may_be_slips_are_asked_about(rt: HostRuntime) {
     asks_about_slips::<Brand, _>(&rt, rt.alloc(), Blank::new(1025));
+}
+
+#[test]
+fn lines_that_may_be_slips_are_asked_about(rt: HostRuntime) {
+    asks_about_more_slips::<Brand, _>(&rt, rt.alloc(), Blank::new(1025));
 }
 
 #[test]

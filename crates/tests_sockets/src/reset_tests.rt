@@ -221,7 +221,7 @@ const KILLED_AFTER: Play = Play {
             5,
         ),
         Act::Types(
-            "alert 4371 3 1 1408 0 - Coast\n",
+            "!alert 4371 3 1 1408 0 - Coast\n",
             "ok 6 warning 1 serial C000\n",
         ),
         Act::Connects(1, 1),

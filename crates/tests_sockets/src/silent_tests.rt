@@ -237,7 +237,7 @@ const IS_OVER: Play = Play {
     acts: &[
         Act::Lines(ONE_CELL, 4),
         Act::Connects(1, 1),
-        Act::Types("alert 4371 3 1 1408 5 - Coast\n", "ok "),
+        Act::Types("!alert 4371 3 1 1408 5 - Coast\n", "ok "),
         Act::Rests(6_000),
         Act::Types(
             "warning 1\n",
