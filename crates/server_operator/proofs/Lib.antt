@@ -1,6 +1,7 @@
 pub mod AskingLemmas
 pub mod BatchLemmas
 pub mod DoubtLemmas
+pub mod ExchangeLemmas
 pub mod HearingLemmas
 pub mod ListingLemmas
 pub mod PartLemmas

@@ -2,6 +2,7 @@ pub mod Asking
 pub mod Batches
 pub mod Doubts
 pub mod Downs
+pub mod Exchanges
 pub mod Hearing
 pub mod Leavings
 pub mod Listing

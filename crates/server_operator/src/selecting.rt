@@ -120,7 +120,7 @@ fn count_of_cell<L: Ledger, S: Server, R: Wait>(
 }
 
 /// How many registered cells the selector names.
-fn count<L: Ledger, S: Server, R: Wait>(
+pub(crate) fn count<L: Ledger, S: Server, R: Wait>(
     rt: &R,
     operator: &Operator<'_, L, S>,
     desk: &Desk<L>,

@@ -121,7 +121,7 @@ bad line: word 2, IDENTIFIER: '!!437' is no number from 0 to 65535
 
 /// Lines that may be slips: emergency warnings under an identifier of a text and under one that isn't assigned, and periods that are too
 /// short, for one page and for twelve. Then the same as they are meant, lines that are no slip, and a `!` before nothing, before a comment
-/// and before no line.
+/// and before no line. Last come cells whose numbers may be exchanged, while no cell has their location area, and others.
 const SLIPS: &str = "\
 alert 4370 1 1 1408 0 - Coast
 alert 437 1 1 1408 0 - Coast
@@ -137,6 +137,13 @@ alert 4359 1 1 1408 0 - Coast
 !# nothing
 !what
 !say 4370 3 0 0 Coast Flood
+cell add 7 100 1
+cell add 7 5 1
+cell add 7 100 1
+cell add 100 9 1
+cell add 9 100 1
+!cell add 9 100 1
+cell add 55 55 1
 ";
 
 /// What the operator is answered. Six entries were there before, and what may be a slip enters nothing.
@@ -153,6 +160,13 @@ ok 10 warning 4 serial C020 cells 1 pages 1 coding 7-bit
 ok 11 warning 5 serial 4000 cells 1
 bad line: no line begins with 'what'; help lists all lines
 no 26 BadPeriod
+exchanged? no cell has LAC 7, and cell 100 7 is registered; to add it all the same type ! before the line
+ok 12
+ok 13
+ok 14
+exchanged? no cell has LAC 9, and cell 100 9 is registered; to add it all the same type ! before the line
+ok 15
+ok 16
 ";
 
 /// Lines that are refused: words that are no line; a text that is Latin-1, that ends within a letter, that has a letter outside of
