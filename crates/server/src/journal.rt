@@ -3,6 +3,7 @@
 ghost use Rattle.std.specs.Prelude.{◌≡◌};
 ghost use Rattle.server_options.specs.Folds.{fold_every};
 
+use crate::kept_file::{begin_file, say_unopened};
 use crate::ports::open_desk;
 use console_text::ReplayFault;
 use journal_file::{
@@ -23,10 +24,12 @@ use std::sync::ledger::Ledger;
 use std::sync::{Mutex, Wait};
 use std::time::Clock;
 
-/// Opens and locks the file of the journal, where one is given.
-pub(crate) fn open_journal<R: Files<File = File>>(
+/// Opens and locks the file of the journal, where one is given. Why it can't be opened is said.
+pub(crate) fn open_journal<R: Files<File = File> + Wait + Clock, E: Write + Drop>(
     rt: &R,
+    alloc: Global,
     options: &ServeOptions,
+    errors: &Errors<E>,
 ) -> Result<Option<DiskFile>, ServeFault> {
     let Some(path) = &options.keep else {
         return Ok(None);
@@ -34,7 +37,10 @@ pub(crate) fn open_journal<R: Files<File = File>>(
     match DiskFile::open(rt, path.as_str()) {
         Ok(file) => Ok(Some(file)),
         Err(OpenFault::InUse) => Err(ServeFault::JournalInUse),
-        Err(OpenFault::Refused) => Err(ServeFault::Journal),
+        Err(OpenFault::Refused) => {
+            say_unopened(rt, alloc, errors, path.as_str());
+            Err(ServeFault::Journal)
+        }
     }
 }
 
@@ -141,7 +147,7 @@ fn tell_torn<E: Write + Drop, R: Wait + Clock>(
 }
 
 /// Enters what stands in the file. What is torn is cut off. Nothing in the file is changed where it can't be read or entered.
-fn enter_lines<L: Ledger, E: Write + Drop, R: Wait + Clock>(
+fn enter_lines<L: Ledger, E: Write + Drop, R: Files + Wait + Clock>(
     start: &Start<'_, L, R>,
     options: &ServeOptions,
     errors: &Errors<E>,
@@ -159,6 +165,7 @@ fn enter_lines<L: Ledger, E: Write + Drop, R: Wait + Clock>(
     match read {
         Ok(loaded) => {
             mend(file, heading_of(options), loaded)?;
+            begin_file(start.rt, start.alloc, options, errors, loaded)?;
             tell_torn(start.rt, start.alloc, errors, loaded);
             Ok(())
         }
@@ -185,7 +192,7 @@ fn enter_losses<L: Ledger, R: Wait>(
 
 /// Enters what stands in the file into the office, at the desk, and then the loss of each link that was up. The answer is what follows
 /// the journal into the file.
-fn enter_all<L: Ledger, E: Write + Drop, R: Wait + Clock>(
+fn enter_all<L: Ledger, E: Write + Drop, R: Files + Wait + Clock>(
     rt: &R,
     options: &ServeOptions,
     shared: &Shared<L, E>,
@@ -207,7 +214,7 @@ fn enter_all<L: Ledger, E: Write + Drop, R: Wait + Clock>(
 }
 
 /// Goes on from the file at the desk, where one is given.
-fn begin_kept<L: Ledger, E: Write + Drop, R: Wait + Clock>(
+fn begin_kept<L: Ledger, E: Write + Drop, R: Files + Wait + Clock>(
     rt: &R,
     options: &ServeOptions,
     shared: &Shared<L, E>,
@@ -229,7 +236,7 @@ pub(crate) fn begin_journal<
     I: BufRead + Drop,
     W: Write + Drop,
     E: Write + Drop,
-    R: Wait + Clock,
+    R: Files + Wait + Clock,
 >(
     rt: &R,
     options: &ServeOptions,

@@ -9,6 +9,7 @@ mod airs;
 mod consoles;
 mod desks;
 mod journal;
+mod kept_file;
 mod knocking;
 mod looking;
 mod operators;
@@ -16,6 +17,8 @@ mod picturing;
 mod ports;
 mod running_server;
 mod serving;
+mod settling;
 mod threads;
 
-pub use serving::{serve, serve_words, settle};
+pub use serving::{serve, serve_words};
+pub use settling::settle;

@@ -5,8 +5,10 @@ ghost use Rattle.std.specs.Prelude.{◌≡◌};
 use crate::consoles::{close_consoles_file, open_console_desks, open_consoles};
 use crate::desks::desks_of;
 use crate::journal::{begin_journal, open_journal};
+use crate::kept_file::tell_failed;
 use crate::looking::{Looking, open_looking, open_looking_desk, run_looking};
 use crate::ports::{Opened, open_desks, open_ports};
+use crate::settling::settle;
 use console_text::{ReplayFault, fault_words};
 use journal_file::DiskFile;
 use journal_keeper::{Keeper, Kept};
@@ -27,33 +29,6 @@ use std::sync::ledger::{Blank, Ledger};
 use std::sync::{Condvar, Mutex, Wait};
 use std::thread::Threads;
 use std::time::Clock;
-
-/// Writes how many entries there are.
-fn write_settled<W: Write>(alloc: Global, writer: &mut W, entries: u64) -> Result<(), ServeFault> {
-    let Ok(text) = format!(in alloc; "settled {entries}\n") else {
-        return Err(ServeFault::Lines(ReplayFault::Memory));
-    };
-    match writer.write_all(text.as_bytes()) {
-        Ok(()) => Ok(()),
-        Err(_) => Err(ServeFault::Lines(ReplayFault::WriteFault)),
-    }
-}
-
-/// Ends an office once its desks are handed in, and writes how many entries there are, as `settled N`.
-pub fn settle<L: Ledger, W: Write>(
-    alloc: Global,
-    office: Office<L>,
-    desks: Vec<Desk<L>>,
-    writer: &mut W,
-) -> Result<(), ServeFault> {
-    match office.settle(desks) {
-        Ok(centre) => write_settled(alloc, writer, centre.position()),
-        Err(unsettled) => {
-            drop(unsettled);
-            Err(ServeFault::Settle)
-        }
-    }
-}
 
 /// Serves until the lines of the operators end, from desks of the ports and the consoles.
 fn run_from_desks<
@@ -113,7 +88,9 @@ fn run_desks<
     terminal: &Mutex<Terminal<L, I, W>>,
 ) -> Result<Vec<Desk<L>>, ServeFault> {
     let keeper = begin_journal(rt, options, shared, file, terminal)?;
-    run_from_desks(rt, shared, keeper, looking, consoles, terminal)?;
+    let ran = run_from_desks(rt, shared, keeper, looking, consoles, terminal);
+    tell_failed(rt, options, shared);
+    ran?;
     desks_of(rt, shared, looking, consoles, terminal)
 }
 
@@ -137,7 +114,7 @@ fn open_all<
     options: &ServeOptions,
     errors: &Errors<E>,
 ) -> Result<Begun<L>, ServeFault> {
-    let file = open_journal(rt, options)?;
+    let file = open_journal(rt, alloc, options, errors)?;
     let opened = open_ports(rt, alloc, options, errors)?;
     let looking = open_looking(rt, alloc, options, errors)?;
     let consoles = open_consoles(rt, alloc, options, errors)?;
@@ -337,11 +314,11 @@ fn run_office<
 /// `errors` gets a line that says what is listened on, and one for each link that comes up, is refused or ends, for a BSC whose
 /// orders are held back, for each BSC that has no port or is down while a warning that it may have on air is stopped or updated, and
 /// for each port that can't be listened on or is closed since a thread of it can't be started. Each line begins with the UTC time.
-/// The answer is the exit status: 0, or 1 after a fault, which is said there as `cbc: ` and its words: `peers fault` where the file
-/// of peers can't be read or has a bad line, `journal in use`, `journal of another network`, `journal of N broadcasts, not of
-/// M`, `not a journal`, `journal line N`, `journal read fault` or `journal fault` where the file of the journal is in use, isn't
-/// this network's, has another number of broadcasts, can't be read or fails, `listen fault` where a port can't be listened on,
-/// `settle fault`, or what ended the lines: `read fault`, `write fault`, `line too long` or `out of memory`.
+/// The answer is the exit status: 0, or that of a fault, which is said there as `cbc: ` and its words. 3 is `peers fault`, where the
+/// file of peers can't be read or has a bad line, `not a journal` and `journal line N`. 4 is `journal of another network` and
+/// `journal of N broadcasts, not of M`. 5 is `journal read fault` or `journal fault`, where the file of the journal can't be read or
+/// fails, and `listen fault`, where a port can't be listened on. 1 is `journal in use`, `settle fault`, or what ended the lines: `read
+/// fault`, `write fault`, `line too long` or `out of memory`.
 pub fn serve<
     R: Files<File = File>
         + PeersSource
@@ -365,7 +342,7 @@ pub fn serve<
         Ok(()) => 0,
         Err((errors, fault)) => {
             errors.say_last(rt, alloc, fault.words());
-            1
+            fault.status()
         }
     }
 }

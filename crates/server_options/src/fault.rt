@@ -1,7 +1,7 @@
 //! What ends a run of the server.
 
 ghost use Rattle.std.specs.Prelude.{◌≡◌};
-ghost use Rattle.server_options.specs.Faults.{words_of};
+ghost use Rattle.server_options.specs.Faults.{status_of, words_of};
 
 use console_text::{ReplayFault, fault_words};
 
@@ -49,6 +49,19 @@ impl ServeFault {
             ServeFault::Listen => b"cbc: listen fault\n",
             ServeFault::Settle => b"cbc: settle fault\n",
             ServeFault::Lines(fault) => fault_words(fault),
+        }
+    }
+
+    /// The exit status after it: 3 where a file isn't as it has to be, and 4 where the kept file is of another network or number of
+    /// broadcasts; neither is any better after another start. 5 where the machine refuses the disk or a port, and 1 after any other.
+    pub fn status(self) -> u8
+        ensures { result ≡ status_of self }
+    {
+        match self {
+            ServeFault::Peers | ServeFault::NotJournal | ServeFault::JournalLine => 3,
+            ServeFault::OtherNetwork | ServeFault::OtherBroadcasts => 4,
+            ServeFault::JournalRead | ServeFault::Journal | ServeFault::Listen => 5,
+            ServeFault::JournalInUse | ServeFault::Settle | ServeFault::Lines(_) => 1,
         }
     }
 }

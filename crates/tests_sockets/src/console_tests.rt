@@ -88,7 +88,7 @@ fn no_folder_is_refused(rt: HostRuntime) {
 
 const NO_FOLDER: Play = Play {
     words: &["--console", "no-folder/console"],
-    status: 1,
+    status: 5,
     answers: Wanted::Is(""),
     said: Wanted::HasNot("cbc: listen fault\n", "consoles: no-folder"),
     ..USUAL

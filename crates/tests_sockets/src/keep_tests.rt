@@ -163,7 +163,7 @@ cbc: BSC 2 has no port: --links is 1\n",
 };
 
 /// A run that is refused its file, and says why.
-fn refused(text: &'static str, said: &'static str) -> Kept {
+fn refused(text: &'static str, status: u8, said: &'static str) -> Kept {
     Kept {
         path: "refused-journal",
         before: Some(text),
@@ -171,7 +171,7 @@ fn refused(text: &'static str, said: &'static str) -> Kept {
         play: Play {
             words: &["--keep", "refused-journal"],
             acts: &[Act::Ends],
-            status: 1,
+            status,
             answers: Wanted::Is(""),
             said: Wanted::Bounds("", said),
             ..USUAL
@@ -181,32 +181,37 @@ fn refused(text: &'static str, said: &'static str) -> Kept {
 
 #[test]
 fn a_file_that_is_refused_stays_as_it_is(rt: HostRuntime) {
-    for (text, said) in REFUSED {
-        keeps(&rt, &refused(text, said));
+    for (text, status, said) in REFUSED {
+        keeps(&rt, &refused(text, *status, said));
     }
 }
 
-/// What stands in a file, and why it is refused.
-const REFUSED: &[(&str, &str)] = &[
-    ("hello\n", "cbc: not a journal\n"),
+/// What stands in a file, the status of a run that is refused it, and why it is.
+const REFUSED: &[(&str, u8, &str)] = &[
+    ("hello\n", 3, "cbc: not a journal\n"),
     (
         "# cbc journal, network 00f111\nbsc add 1\n",
+        4,
         "cbc: journal of another network\n",
     ),
     (
         "# cbc journal, network 00f110, broadcasts 65535\nbsc add 1\n",
+        4,
         "cbc: journal of 65535 broadcasts, not of 0\n",
     ),
     (
         "# cbc journal, network 00f110\nbsc add 1\nquit\n",
+        3,
         "cbc: journal line 3\n",
     ),
     (
         "# cbc journal, network 00f110\nbsc add 1\nbsc add 1\nbsc a",
+        3,
         "cbc: journal line 3\n",
     ),
     (
         "# cbc journal, network 00f110\nboard 1\n",
+        3,
         "cbc: journal line 2\n",
     ),
 ];
@@ -250,7 +255,7 @@ const BROADCASTS: &[Kept] = &[
         play: Play {
             words: &["--keep", "journal-of-broadcasts", "--broadcasts", "65535"],
             acts: &[Act::Ends],
-            status: 1,
+            status: 4,
             answers: Wanted::Is(""),
             said: Wanted::Bounds("", "cbc: journal of 0 broadcasts, not of 65535\n"),
             ..USUAL
@@ -265,7 +270,7 @@ fn a_directory_is_no_journal(rt: HostRuntime) {
 
 const DIRECTORY: Play = Play {
     words: &["--keep", "."],
-    status: 1,
+    status: 5,
     answers: Wanted::Is(""),
     said: Wanted::Bounds("cbc: ", "\n"),
     ..USUAL
@@ -279,7 +284,7 @@ fn a_file_that_cannot_be_synced_is_refused(rt: HostRuntime) {
 
 const UNSYNCED: Play = Play {
     words: &["--keep", "/dev/null"],
-    status: 1,
+    status: 5,
     answers: Wanted::Is(""),
     said: Wanted::Bounds("cbc: journal ", "\n"),
     ..USUAL

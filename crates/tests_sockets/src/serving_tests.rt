@@ -130,7 +130,7 @@ fn a_taken_port_is_a_fault(rt: HostRuntime) {
 
 const TAKEN_PORT: Play = Play {
     base: Base::Taken,
-    status: 1,
+    status: 5,
     answers: Wanted::Is(""),
     said: Wanted::Bounds("cbc: BSC 1: ", "cbc: listen fault\n"),
     ..USUAL

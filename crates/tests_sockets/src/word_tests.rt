@@ -275,14 +275,14 @@ const FILES_OF_PEERS: &[Play] = &[
     },
     Play {
         words: &["--peers", "/proc/version"],
-        status: 1,
+        status: 3,
         answers: Wanted::Is(""),
         said: Wanted::Is("cbc: peers: line 1 can't be read\ncbc: peers fault\n"),
         ..USUAL
     },
     Play {
         words: &["--peers", "/dev/zero"],
-        status: 1,
+        status: 3,
         answers: Wanted::Is(""),
         said: Wanted::Is("cbc: peers: the file is too long\ncbc: peers fault\n"),
         ..USUAL
@@ -290,7 +290,7 @@ const FILES_OF_PEERS: &[Play] = &[
     // A file that isn't there: the error of the system, then the fault.
     Play {
         words: &["--peers", "/dev/null/peers"],
-        status: 1,
+        status: 3,
         answers: Wanted::Is(""),
         said: Wanted::Bounds("cbc: peers: ", "cbc: peers fault\n"),
         ..USUAL
