@@ -36,6 +36,10 @@ since_of sinces row = if is_some row.flight then of_bsc sinces row else None
 abbrev pub reset_of : List (Option ℕ) → BscRow → Option ℕ
 reset_of resets row = if row.is_up then of_bsc resets row else None
 
+-- when the BSC's link ended, where that is down
+abbrev pub ended_of : List (Option ℕ) → BscRow → Option ℕ
+ended_of ends row = if row.is_up then None else of_bsc ends row
+
 -- the cell is down for some kind of warning
 abbrev pub is_down : CellRow → Bool
 is_down cell = cell.is_down || cell.is_down_for_emergency
@@ -45,8 +49,9 @@ abbrev pub down_count : List CellRow → ℕ
 down_count cells = count_by is_down cells
 
 -- a BSC
-abbrev pub figures_of : List (Option ℕ) → List (Option ℕ) → List (Option ℕ) → BscRow → BscFigures
-figures_of sinces resets downs row = record { row = row; since = since_of sinces row; reset = reset_of resets row; down = of_bsc downs row }
+abbrev pub figures_of : List (Option ℕ) → List (Option ℕ) → List (Option ℕ) → List (Option ℕ) → BscRow → BscFigures
+figures_of sinces resets ends downs row =
+    record { row = row; since = since_of sinces row; reset = reset_of resets row; ended = ended_of ends row; down = of_bsc downs row }
 
 -- Warnings.
 
@@ -117,8 +122,9 @@ refusal_tally counts r = tally (refusal_name r) (cause_count counts r)
 abbrev pub picture : Surveyed → Moments → Picture
 picture s m = record {
   taken = m.taken;
+  begun = m.begun;
   status = s.survey.status;
-  bscs = map (figures_of m.sinces.items m.resets.items m.downs.items) s.survey.bscs;
+  bscs = map (figures_of m.sinces.items m.resets.items m.ends.items m.downs.items) s.survey.bscs;
   warnings = map (warning_of m.airs.items) s.survey.warnings;
   kept = m.kept;
   receipts = s.counts.receipts;

@@ -28,6 +28,7 @@ pub fn picture(alloc: Global, surveyed: Surveyed, moments: &Moments) -> Result<P
         rows.as_slice(),
         sinces,
         resets,
+        moments.ends.as_slice(),
         moments.downs.as_slice(),
     )?;
     let warnings = warnings(alloc, moments.airs.as_slice(), surveyed.into_vec())?;
@@ -35,6 +36,7 @@ pub fn picture(alloc: Global, surveyed: Surveyed, moments: &Moments) -> Result<P
     let entries = entries(alloc, &counts)?;
     Ok(Picture {
         taken: moments.taken,
+        begun: moments.begun,
         status,
         bscs,
         warnings,

@@ -63,6 +63,23 @@ fn since_of<L: Ledger, R: Wait>(rt: &R, port: &Port<L>, second: u64, moment: u64
     Some(second_at(out, second, moment))
 }
 
+/// The second at which the link of the port ended, where it is down: the server began then at the latest where it had none since.
+fn ended_of<L: Ledger, R: Wait>(
+    rt: &R,
+    port: &Port<L>,
+    begun: u64,
+    second: u64,
+    moment: u64,
+) -> Option<u64> {
+    if port.is_up(rt) {
+        return None;
+    }
+    match port.ended(rt) {
+        Some(ended) => Some(second_at(ended, second, moment)),
+        None => Some(begun),
+    }
+}
+
 /// How much memory the program takes, in kibibytes, by the line `VmRSS` of what the system says of it (proc_pid_status(5)).
 fn kibibytes_in(text: &[u8]) -> Option<u64> {
     let text = str::from_utf8(text).ok()?;
@@ -135,14 +152,19 @@ impl<'a, L: Ledger, E: Write + Drop> RunningPictures<'a, L, E> {
         let moment = moment_of(rt);
         let mut sinces = Vec::new(self.shared.alloc);
         let mut resets = Vec::new(self.shared.alloc);
+        let mut ends = Vec::new(self.shared.alloc);
+        let begun = self.shared.broadcasts.begun();
         for port in &self.shared.ports {
             sinces.push(since_of(rt, port, taken, moment))?;
             resets.push(port.reset_since(rt))?;
+            ends.push(ended_of(rt, port, begun, taken, moment))?;
         }
         Ok(Moments {
             taken,
+            begun,
             sinces,
             resets,
+            ends,
             downs: Vec::new(self.shared.alloc),
             airs: Vec::new(self.shared.alloc),
             kept: None,

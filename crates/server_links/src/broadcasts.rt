@@ -1,5 +1,7 @@
 //! What replies say of broadcasts: where a number doesn't rise, and when a message came on air.
 
+ghost use Rattle.std.specs.Prelude.{◌≡◌};
+
 use crate::counted::all_counted;
 use crate::shared::{Shared, now_of, second_of};
 use broadcast_watch::{Airings, over_since, silence_of, takes_off_air};
@@ -43,6 +45,13 @@ impl BroadcastWatch {
             begun,
             airings: Mutex::new(Airings::new(alloc)),
         }
+    }
+
+    /// When the server began, in seconds after 1970-01-01T00:00:00Z.
+    pub fn begun(&self) -> u64
+        ensures { result ≡ self.now.begun }
+    {
+        self.begun
     }
 
     /// Since when the version is over that has that Warning Period, where it is on air by the board. One of which no reply said that it

@@ -17,6 +17,7 @@ mod link_limits;
 mod named;
 mod outgoing;
 mod port;
+mod port_limits;
 mod port_pace;
 mod port_state;
 mod shut;

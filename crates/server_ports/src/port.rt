@@ -5,8 +5,6 @@ ghost use Rattle.server_ports.specs.Causes.{is_cut};
 
 use crate::connection::Connection;
 use crate::ended::Ended;
-use crate::entered::Entered;
-use crate::figures::Figures;
 use crate::job::Job;
 use crate::named::Named;
 use crate::port_pace::PortPace;
@@ -16,8 +14,7 @@ use crate::side_end::SideEnd;
 use broadcast_watch::Silences;
 use cell_register::BscId;
 use libc::net::{SHUT_RDWR, shutdown};
-use link_rules::{AliveStep, Cost, Overdue, Query, Repeat, Verdict, Version};
-use link_worker::Load;
+use link_rules::{AliveStep, Overdue, Query, Repeat, Verdict, Version};
 use office::desk::Desk;
 use std::alloc::Global;
 use std::net::{IpAddr, SocketAddr, TcpListener, TcpStream};
@@ -37,7 +34,7 @@ pub struct Port<L: Ledger> {
     pub write_desk: Mutex<Option<Desk<L>>>,
     /// Which numbers of broadcasts stand still.
     pub silences: Mutex<Silences>,
-    pace: Mutex<PortPace>,
+    pub(crate) pace: Mutex<PortPace>,
     state: Mutex<PortState>,
     changed: Condvar,
 }
@@ -161,6 +158,7 @@ impl<L: Ledger> Port<L> {
         self.changed.notify_all();
         let mut pace = self.pace.lock(rt);
         pace.begin(now);
+        pace.end(now);
         ended
     }
 
@@ -253,6 +251,11 @@ impl<L: Ledger> Port<L> {
         self.pace.lock(rt).out_since()
     }
 
+    /// When the last link ended; `None` where one has come up since, or none ever has.
+    pub fn ended<R: Wait>(&self, rt: &R) -> Option<u64> {
+        self.pace.lock(rt).ended()
+    }
+
     /// Whether the answer to a RESET is overdue.
     pub fn look_reset<R: Wait>(&self, rt: &R, now: u64) -> Overdue {
         self.pace.lock(rt).look_reset(now)
@@ -296,66 +299,6 @@ impl<L: Ledger> Port<L> {
     pub fn end_alive<R: Wait>(&self, rt: &R) {
         self.state.lock(rt).end_alive();
         self.changed.notify_all();
-    }
-
-    /// By which figures reports are charged from now on.
-    pub fn set_figures<R: Wait>(&self, rt: &R, figures: Figures) {
-        self.pace.lock(rt).set_figures(figures);
-    }
-
-    /// A report of that load is to come in. The answer is what it costs, which isn't charged yet.
-    pub fn begin_report<R: Wait>(&self, rt: &R, load: Load) -> Cost {
-        self.pace.lock(rt).begin_report(load)
-    }
-
-    /// Whether a report of that cost may come in now, which is charged then.
-    pub fn take_cost<R: Wait>(&self, rt: &R, cost: Cost, now: u64) -> bool {
-        self.pace.lock(rt).take_cost(cost, now)
-    }
-
-    /// The report has the turn of the heavy ones.
-    pub fn take_turn<R: Wait>(&self, rt: &R) {
-        self.pace.lock(rt).take_turn();
-    }
-
-    /// The report was submitted, or it is none any more. The answer is what was known of it.
-    pub fn end_report<R: Wait>(&self, rt: &R) -> Entered {
-        self.pace.lock(rt).end_report()
-    }
-
-    /// Whether it is to be said that reports are held back for what they cost.
-    pub fn is_first_cost<R: Wait>(&self, rt: &R) -> bool {
-        self.pace.lock(rt).costs().is_first()
-    }
-
-    /// Whether a report may come in now, which is counted then.
-    pub fn take_report<R: Wait>(&self, rt: &R, now: u64) -> bool {
-        self.pace.lock(rt).reports().take(now)
-    }
-
-    /// Whether it is to be said that reports are held back.
-    pub fn is_first_report<R: Wait>(&self, rt: &R) -> bool {
-        self.pace.lock(rt).reports().is_first()
-    }
-
-    /// Whether a connection may get the link now, which is counted then.
-    pub fn take_connection<R: Wait>(&self, rt: &R, now: u64) -> bool {
-        self.pace.lock(rt).connections().take(now)
-    }
-
-    /// Whether it is to be said that connections are held back.
-    pub fn is_first_connection<R: Wait>(&self, rt: &R) -> bool {
-        self.pace.lock(rt).connections().is_first()
-    }
-
-    /// Whether it may be said now that a connection is closed, which is counted then.
-    pub fn take_closed<R: Wait>(&self, rt: &R, now: u64) -> bool {
-        self.pace.lock(rt).closed().take(now)
-    }
-
-    /// Whether it is to be said that more connections are closed than are said.
-    pub fn is_first_closed<R: Wait>(&self, rt: &R) -> bool {
-        self.pace.lock(rt).closed().is_first()
     }
 
     /// Has the simulated BSC connect.

@@ -1,6 +1,6 @@
 //! How fast the links of a port go on.
 
-ghost use Rattle.std.specs.Prelude.{◌≡◌, [], if◌then◌else◌};
+ghost use Rattle.std.specs.Prelude.{◌≡◌, [], None, Some, if◌then◌else◌};
 ghost use Rattle.link_rules.specs.Repeats.{IsKept};
 ghost use Rattle.link_rules.specs.Replies.{with_end, with_order};
 ghost use Rattle.server_ports.specs.Paces.{is_waiting};
@@ -26,6 +26,8 @@ pub struct PortPace {
     connections: RateLimit,
     /// Connections that are closed at once, each of which is said.
     closed: RateLimit,
+    /// What reports came to, each of which is said.
+    told: RateLimit,
     /// What reports may cost, and by which figures they are charged.
     costs: CostLimit,
     figures: Figures,
@@ -42,6 +44,8 @@ pub struct PortPace {
     orders: Repeats,
     /// Which queries are due that no operator wished for.
     queries: QueryPace,
+    /// When the last link ended, unless one has come up since.
+    ended: Option<u64>,
 }
 
 impl PortPace {
@@ -61,6 +65,7 @@ impl PortPace {
             reports: limits.reports,
             connections: limits.connections,
             closed: RateLimit::for_connections(),
+            told: RateLimit::for_connections(),
             costs: limits.costs,
             figures: Figures::none(),
             entered: Entered::none(),
@@ -70,6 +75,7 @@ impl PortPace {
             alive: AlivePace::new(alive_seconds, reply_seconds),
             orders: Repeats::new(alloc),
             queries: QueryPace::new(alloc, query_ms),
+            ended: None,
         }
     }
 
@@ -137,12 +143,28 @@ impl PortPace {
         ensures replies { self.new.replies ≡ with_end self.old.replies }
         ensures resets { self.new.resets ≡ with_end self.old.resets }
         ensures orders { IsKept [] self.new.orders }
+        ensures ended { self.new.ended ≡ None }
     {
         self.replies.ended();
         self.resets.ended();
         self.orders.changed();
         self.queries.begin();
         self.alive.begin(now);
+        self.ended = None;
+    }
+
+    /// The link has ended.
+    pub(crate) fn end(&mut self, now: u64)
+        ensures { self.new ≡ record self.old { ended = Some now } }
+    {
+        self.ended = Some(now);
+    }
+
+    /// When the last link ended; `None` where one has come up since, or none ever has.
+    pub(crate) fn ended(&self) -> Option<u64>
+        ensures { result ≡ self.now.ended }
+    {
+        self.ended
     }
 
     /// Something was read; `is_answer` where an answer to a KEEP ALIVE is among it.
@@ -241,6 +263,11 @@ impl PortPace {
     /// How fast connections are let in.
     pub(crate) fn connections(&mut self) -> &mut RateLimit {
         &mut self.connections
+    }
+
+    /// How fast it is said what reports came to.
+    pub(crate) fn told(&mut self) -> &mut RateLimit {
+        &mut self.told
     }
 
     /// How fast it is said of connections that they are closed.

@@ -49,6 +49,7 @@ counter = codes "counter"
 
 -- the name of a metric of the centre
 abbrev pub centre_metric_name : CentreMetric → List ℕ
+centre_metric_name of_centre.Begun = codes "process_start_time_seconds"
 centre_metric_name of_centre.Taken = codes "cbc_picture_timestamp_seconds"
 centre_metric_name of_centre.IsStale = codes "cbc_stale"
 centre_metric_name of_centre.Entries = codes "cbc_journal_entries_total"
@@ -60,6 +61,7 @@ centre_metric_name of_centre.Memory = codes "process_resident_memory_bytes"
 
 -- what it is
 abbrev pub centre_metric_help : CentreMetric → List ℕ
+centre_metric_help of_centre.Begun = codes "When the program began."
 centre_metric_help of_centre.Taken = codes "When the picture was taken."
 centre_metric_help of_centre.IsStale = codes "Whether the centre is stale and has to be rebuilt."
 centre_metric_help of_centre.Entries = codes "Entries of the journal since the beginning."
@@ -71,6 +73,7 @@ centre_metric_help of_centre.Memory = codes "Memory that the program takes."
 
 -- what never falls is a counter
 abbrev pub centre_metric_type : CentreMetric → List ℕ
+centre_metric_type of_centre.Begun = gauge
 centre_metric_type of_centre.Taken = gauge
 centre_metric_type of_centre.IsStale = gauge
 centre_metric_type of_centre.Entries = counter
@@ -82,6 +85,7 @@ centre_metric_type of_centre.Memory = gauge
 
 -- its number, where it is known
 abbrev pub centre_metric_value : Picture → CentreMetric → Option ℕ
+centre_metric_value p of_centre.Begun = Some p.begun
 centre_metric_value p of_centre.Taken = Some p.taken
 centre_metric_value p of_centre.IsStale = Some (flag p.status.is_stale)
 centre_metric_value p of_centre.Entries = Some p.status.entries
@@ -98,7 +102,7 @@ centre_metric_text p m = single_if (centre_metric_name m) (centre_metric_help m)
 -- all metrics of the centre
 abbrev pub centre_metrics : List CentreMetric
 centre_metrics =
-    of_centre.Taken ∷ of_centre.IsStale ∷ of_centre.Entries ∷ of_centre.Folded ∷ of_centre.Limit ∷ of_centre.Kept
+    of_centre.Begun ∷ of_centre.Taken ∷ of_centre.IsStale ∷ of_centre.Entries ∷ of_centre.Folded ∷ of_centre.Limit ∷ of_centre.Kept
     ∷ of_centre.Receipts ∷ of_centre.Memory ∷ []
 
 -- the name of a metric that counts things of the centre
@@ -249,6 +253,7 @@ bsc_metric_name of_bsc.InFlight = codes "cbc_bsc_in_flight"
 bsc_metric_name of_bsc.Since = codes "cbc_bsc_in_flight_since_timestamp_seconds"
 bsc_metric_name of_bsc.Reset = codes "cbc_bsc_reset_since_timestamp_seconds"
 bsc_metric_name of_bsc.Down = codes "cbc_bsc_down_cells"
+bsc_metric_name of_bsc.Ended = codes "cbc_bsc_link_down_since_timestamp_seconds"
 
 -- what it is
 abbrev pub bsc_metric_help : BscMetric → List ℕ
@@ -259,6 +264,7 @@ bsc_metric_help of_bsc.InFlight = codes "Orders and queries that are in flight t
 bsc_metric_help of_bsc.Since = codes "When what is in flight to a BSC went out."
 bsc_metric_help of_bsc.Reset = codes "When the RESET went out that a BSC has not answered."
 bsc_metric_help of_bsc.Down = codes "Cells of a BSC that are down for some kind of warning."
+bsc_metric_help of_bsc.Ended = codes "When the link of a BSC ended that is down."
 
 -- how many things are in flight
 abbrev pub one_if : {A : Type 0} → Option A → ℕ
@@ -274,6 +280,7 @@ bsc_metric_value of_bsc.InFlight b = Some (one_if b.row.flight)
 bsc_metric_value of_bsc.Since b = b.since
 bsc_metric_value of_bsc.Reset b = b.reset
 bsc_metric_value of_bsc.Down b = b.down
+bsc_metric_value of_bsc.Ended b = b.ended
 
 -- a sample of a metric of a BSC
 abbrev pub bsc_sample : List ℕ → ℕ → ℕ → List ℕ
@@ -296,8 +303,9 @@ bsc_metric_text m bscs = head_text (bsc_metric_name m) (bsc_metric_help m) gauge
 unfoldable pub bsc_states_text : List BscFigures → List ℕ
 bsc_states_text bscs =
     bsc_metric_text of_bsc.LinkUp bscs
+    ++ (bsc_metric_text of_bsc.Ended bscs
     ++ (bsc_metric_text of_bsc.Cells bscs
-    ++ (bsc_metric_text of_bsc.Down bscs ++ bsc_metric_text of_bsc.Pending bscs))
+    ++ (bsc_metric_text of_bsc.Down bscs ++ bsc_metric_text of_bsc.Pending bscs)))
 
 -- the metrics of what is out to them
 unfoldable pub bsc_flights_text : List BscFigures → List ℕ

@@ -20,6 +20,7 @@ pub(crate) enum BscMetric {
     Since,
     Reset,
     Down,
+    Ended,
 }
 
 /// How many things are in flight.
@@ -44,6 +45,7 @@ impl BscMetric {
             BscMetric::Since => "cbc_bsc_in_flight_since_timestamp_seconds",
             BscMetric::Reset => "cbc_bsc_reset_since_timestamp_seconds",
             BscMetric::Down => "cbc_bsc_down_cells",
+            BscMetric::Ended => "cbc_bsc_link_down_since_timestamp_seconds",
         }
     }
 
@@ -58,6 +60,7 @@ impl BscMetric {
             BscMetric::InFlight => "Orders and queries that are in flight to a BSC, one at most.",
             BscMetric::Since => "When what is in flight to a BSC went out.",
             BscMetric::Reset => "When the RESET went out that a BSC has not answered.",
+            BscMetric::Ended => "When the link of a BSC ended that is down.",
             BscMetric::Down => "Cells of a BSC that are down for some kind of warning.",
         }
     }
@@ -73,6 +76,7 @@ impl BscMetric {
             BscMetric::Since => bsc.since,
             BscMetric::Reset => bsc.reset,
             BscMetric::Down => bsc.down,
+            BscMetric::Ended => bsc.ended,
         }
     }
 }
@@ -138,6 +142,7 @@ fn push_states(alloc: Global, out: &mut Vec<u8>, bscs: &[BscFigures]) -> Result<
     ensures { OnOk result (out.new.items ≡ out.old.items ++ bsc_states_text bscs.now) }
 {
     push_metric(alloc, out, BscMetric::LinkUp, bscs)?;
+    push_metric(alloc, out, BscMetric::Ended, bscs)?;
     push_metric(alloc, out, BscMetric::Cells, bscs)?;
     push_metric(alloc, out, BscMetric::Down, bscs)?;
     push_metric(alloc, out, BscMetric::Pending, bscs)

@@ -12,6 +12,7 @@ use std::alloc::{AllocError, Global};
 /// A metric of the centre, which has one sample at most.
 #[derive(Clone, Copy, Debug, PartialEq, Eq)]
 pub(crate) enum CentreMetric {
+    Begun,
     Taken,
     IsStale,
     Entries,
@@ -34,6 +35,7 @@ pub(crate) enum PlanMetric {
 }
 
 const CENTRE_METRICS: &[CentreMetric] = &[
+    CentreMetric::Begun,
     CentreMetric::Taken,
     CentreMetric::IsStale,
     CentreMetric::Entries,
@@ -58,6 +60,7 @@ impl CentreMetric {
         ensures { result.now ≡ centre_metric_name self }
     {
         match self {
+            CentreMetric::Begun => "process_start_time_seconds",
             CentreMetric::Taken => "cbc_picture_timestamp_seconds",
             CentreMetric::IsStale => "cbc_stale",
             CentreMetric::Entries => "cbc_journal_entries_total",
@@ -73,6 +76,7 @@ impl CentreMetric {
         ensures { result.now ≡ centre_metric_help self }
     {
         match self {
+            CentreMetric::Begun => "When the program began.",
             CentreMetric::Taken => "When the picture was taken.",
             CentreMetric::IsStale => "Whether the centre is stale and has to be rebuilt.",
             CentreMetric::Entries => "Entries of the journal since the beginning.",
@@ -89,7 +93,8 @@ impl CentreMetric {
     {
         match self {
             CentreMetric::Entries | CentreMetric::Folded => "counter",
-            CentreMetric::Taken
+            CentreMetric::Begun
+            | CentreMetric::Taken
             | CentreMetric::IsStale
             | CentreMetric::Limit
             | CentreMetric::Kept
@@ -102,6 +107,7 @@ impl CentreMetric {
         ensures { result ≡ centre_metric_value picture.now self }
     {
         match self {
+            CentreMetric::Begun => Some(picture.begun),
             CentreMetric::Taken => Some(picture.taken),
             CentreMetric::IsStale => Some(flag(picture.status.is_stale)),
             CentreMetric::Entries => Some(picture.status.entries),

@@ -9,6 +9,8 @@ use centre_past::lists::CentreStatus;
 pub struct Picture {
     /// When it was taken, in seconds after 1970-01-01T00:00:00Z.
     pub taken: u64,
+    /// When the program began, in seconds after 1970-01-01T00:00:00Z.
+    pub begun: u64,
     pub status: CentreStatus,
     /// The registered BSCs; none where the centre is stale.
     pub bscs: BscList,
@@ -31,6 +33,7 @@ impl Drop for Picture {
     fn drop(self) {
         let Picture {
             taken: _taken,
+            begun: _begun,
             status: _status,
             bscs: _bscs,
             warnings: _warnings,

@@ -9,6 +9,7 @@ use Rattle.status_pages.specs.WarningParts.{section_front, section_if, standing_
 use Rattle.status_pages.specs.declared.standing.Standing.{Standing}
 use Rattle.status_pages.specs.declared.standing.Standing.TheVariants.{Pressing, Unreached, Silent, Wrong, UnderWay, InOrder, Stopped}
 use Rattle.status_pages.specs.Pieces.{piece_html}
+use Rattle.status_pages.specs.Times.{time_of_day}
 use Rattle.status_pages.specs.declared.piece.Piece.TheVariants as piece
 
 -- what a list of BSCs that stand so is called
@@ -69,6 +70,17 @@ abbrev pub out_for : ℕ → Option ℕ → List ℕ
 out_for taken None = piece_html piece.ParagraphEnd
 out_for taken (Some since) = seconds_html (taken - since)
 
+-- since when a link is down, and for how long
+unfoldable pub ended_html : ℕ → ℕ → List ℕ
+ended_html taken since =
+    piece_html piece.EndedFront
+    ++ (time_of_day since ++ (piece_html piece.EndedMiddle ++ (decimal (taken - since) ++ piece_html piece.EndedEnd)))
+
+-- since when its link is down, or for how long a RESET is out over it
+abbrev pub link_since : ℕ → BscFigures → Option ℕ → List ℕ
+link_since taken b None = out_for taken b.reset
+link_since taken b (Some since) = ended_html taken since
+
 -- what is in flight
 unfoldable pub flight_html : FlightRow → List ℕ
 flight_html f =
@@ -85,7 +97,7 @@ unfoldable pub bsc_html : ℕ → BscFigures → List ℕ
 bsc_html taken b =
     bsc_front taken b
     ++ (link_html b
-    ++ (out_for taken b.reset
+    ++ (link_since taken b b.ended
     ++ (bsc_counts_html b ++ (flight_if taken b.row.flight b.since ++ piece_html piece.ArticleEnd))))
 
 -- a BSC, if it stands so

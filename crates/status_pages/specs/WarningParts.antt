@@ -1,5 +1,5 @@
 -- A warning on the page.
-use Rattle.std.specs.Prelude.{ℕ, ◌==◌, ◌/◌, List, [], ◌∷◌, ◌++◌, Option, Some, None, codes, count_by, decimal, if◌then◌else◌}
+use Rattle.std.specs.Prelude.{ℕ, Bool, ◌==◌, ◌/◌, List, [], ◌∷◌, ◌++◌, Option, Some, None, codes, count_by, decimal, if◌then◌else◌, length, nat_lt}
 use Rattle.std.specs.List.{flat_map}
 use Rattle.std.specs.Option.{option_map}
 use Rattle.std.specs.Str.{encode_utf8_all}
@@ -146,18 +146,31 @@ unfoldable pub notes_html : Picture → WarningFigures → List ℕ
 notes_html p w =
     silent_if w.silent ++ (over_if w.over ++ (unreached_html w.sheet.row ++ stuck_html p w.sheet.row))
 
+-- there are so few warnings that each is shown as a whole: 16 or fewer
+abbrev pub are_few : Picture → Bool
+are_few p = nat_lt (length p.warnings) 17
+
+-- where the part begins of which a line is left where it is folded: where there are more, each is, until somebody opens it
+unfoldable pub fold_front : Picture → List ℕ
+fold_front p = if are_few p then piece_html piece.OpenFront else piece_html piece.FoldedFront
+
 -- what stands above its content
 unfoldable pub warning_head : Picture → WarningFigures → List ℕ
-warning_head p w = warning_front p w ++ (name_html w.sheet.row ++ version_html w.sheet.row)
+warning_head p w = warning_front p w ++ (fold_front p ++ (name_html w.sheet.row ++ version_html w.sheet.row))
 
 -- its board and those of its areas
 unfoldable pub warning_boards : WarningFigures → List ℕ
-warning_boards w = board_html w.sheet.row.numbers ++ (areas_html w.areas ++ piece_html piece.ArticleEnd)
+warning_boards w =
+    board_html w.sheet.row.numbers ++ (areas_html w.areas ++ (piece_html piece.FoldEnd ++ piece_html piece.ArticleEnd))
+
+-- its content, up to where the fold begins
+unfoldable pub shown_content : Option Content → List ℕ
+shown_content content = content_html content ++ piece_html piece.FoldMiddle
 
 -- a warning
 unfoldable pub warning_html : Picture → WarningFigures → List ℕ
 warning_html p w =
-    warning_head p w ++ (content_html w.sheet.content ++ (notes_html p w ++ warning_boards w))
+    warning_head p w ++ (shown_content w.sheet.content ++ (notes_html p w ++ warning_boards w))
 
 -- where a section begins
 unfoldable pub section_class : Standing → List ℕ

@@ -2,12 +2,13 @@
 
 ghost use Rattle.std.specs.Prelude.{◌≡◌, ◌++◌, OnOk};
 ghost use Rattle.std.specs.List.{flat_map};
-ghost use Rattle.status_pages.specs.BscParts.{bsc_counts_html, bsc_front, bsc_html, bsc_if, bscs_html, bscs_section, bscs_title, cells_html, down_html, down_if, flight_html, flight_if, front_with, link_class, link_html, out_for, pending_html, seconds_html, some_bscs};
+ghost use Rattle.status_pages.specs.BscParts.{bsc_counts_html, bsc_front, bsc_html, bsc_if, bscs_html, bscs_section, bscs_title, cells_html, down_html, down_if, ended_html, flight_html, flight_if, front_with, link_class, link_html, link_since, out_for, pending_html, seconds_html, some_bscs};
 
 use crate::piece::{Piece, push_piece};
 use crate::sections::{push_section_front, standing_class};
 use crate::standing::Standing;
 use crate::standings::{bsc_standing, bsc_stands, count_bscs};
+use crate::times::push_time;
 use centre_past::lists::FlightRow;
 use status_figures::{BscFigures, flight_name, four_digits, is_in_service, link_word};
 use std::alloc::{AllocError, Global};
@@ -136,6 +137,35 @@ fn push_seconds(alloc: Global, out: &mut Vec<u8>, seconds: u64) -> Result<(), Al
     out.extend_from_slice(text.as_bytes())
 }
 
+/// Appends since when a link is down, and for how long.
+#[tactic(auto, unfolding(crate::specs::BscParts::ended_html))]
+fn push_ended(alloc: Global, out: &mut Vec<u8>, taken: u64, since: u64) -> Result<(), AllocError>
+    ensures { OnOk result (out.new.items ≡ out.old.items ++ ended_html taken since) }
+{
+    let seconds = taken.saturating_sub(since);
+    let digits = format!(in alloc; "{seconds}")?;
+    push_piece(out, Piece::EndedFront)?;
+    push_time(out, since)?;
+    push_piece(out, Piece::EndedMiddle)?;
+    out.extend_from_slice(digits.as_bytes())?;
+    push_piece(out, Piece::EndedEnd)
+}
+
+/// Appends since when its link is down, or for how long a RESET is out over it.
+fn push_link_since(
+    alloc: Global,
+    out: &mut Vec<u8>,
+    taken: u64,
+    bsc: &BscFigures,
+) -> Result<(), AllocError>
+    ensures { OnOk result (out.new.items ≡ out.old.items ++ link_since taken bsc.now bsc.now.ended) }
+{
+    match bsc.ended {
+        None => push_out_for(alloc, out, taken, bsc.reset),
+        Some(since) => push_ended(alloc, out, taken, since),
+    }
+}
+
 #[tactic(auto, unfolding(crate::specs::BscParts::flight_html))]
 fn push_flight(alloc: Global, out: &mut Vec<u8>, flight: FlightRow) -> Result<(), AllocError>
     ensures { OnOk result (out.new.items ≡ out.old.items ++ flight_html flight) }
@@ -176,7 +206,7 @@ fn push_bsc(
 {
     push_front(alloc, out, taken, bsc)?;
     push_link(alloc, out, bsc)?;
-    push_out_for(alloc, out, taken, bsc.reset)?;
+    push_link_since(alloc, out, taken, bsc)?;
     push_bsc_counts(alloc, out, bsc)?;
     push_flight_if(alloc, out, taken, bsc.row.flight, bsc.since)?;
     push_piece(out, Piece::ArticleEnd)

@@ -8,7 +8,7 @@ use std::alloc::AllocError;
 /// The Content-Security-Policy of the page: its own styles and its own script, which is named by its SHA-256, and requests to the server
 /// that it came from. The lengths of bars stand in attributes, so that styles have to be allowed as a whole.
 pub const POLICY: &str =
-    "default-src 'none'; style-src 'unsafe-inline'; script-src 'sha256-hlkAQmlifGGA5TTcQlNU19rYlhFRIEgM0jho5ntqI2I='; connect-src 'self'; base-uri 'none'; form-action 'none'; frame-ancestors 'none'";
+    "default-src 'none'; style-src 'unsafe-inline'; script-src 'sha256-T7RPhFvUWdbJBHY9EoueTi0J4S3ZR1zdXZ1RrY6dGCo='; connect-src 'self'; base-uri 'none'; form-action 'none'; frame-ancestors 'none'";
 
 /// Where the page begins, up to its title.
 const BEFORE: &[u8] = br##"<!DOCTYPE html>
@@ -46,6 +46,9 @@ h2 { margin: 1rem 0 0.4rem; font-size: 1.3rem; font-weight: 700; }
 .off > div > .w { border-left-style: double; border-left-color: #8b97a3; }
 h3 { display: flex; flex-wrap: wrap; gap: 0 0.9rem; color: #b8c2cc; }
 h3 b, .b h3 { color: #f3f5f7; font-size: 1.15rem; font-weight: 700; }
+summary { cursor: pointer; }
+details:not([open]) > summary { display: flex; flex-wrap: wrap; gap: 0 0.9rem; align-items: baseline; }
+details:not([open]) > summary p { flex: 1 1 12rem; min-width: 0; margin: 0; overflow: hidden; font-size: 1rem; text-overflow: ellipsis; white-space: nowrap; }
 .text { margin: 0.3rem 0; font-size: 1.2rem; white-space: pre-wrap; overflow-wrap: anywhere; }
 .none { color: #ffb199; font-weight: 700; }
 .octets { margin: 0.3rem 0; color: #b8c2cc; font-family: ui-monospace, monospace; overflow-wrap: anywhere; }
@@ -110,7 +113,7 @@ const AFTER: &[u8] = br##"
 <script>
 (function () {
 "use strict";
-var heard = performance.now(), behind = 0, asking = false, fault = "", lists = "";
+var heard = performance.now(), behind = 0, asking = false, fault = "", lists = "", open = {};
 function by(id) { return document.getElementById(id); }
 function put(id, text) { var it = by(id); if (it && it.textContent !== text) it.textContent = text; }
 function tell() {
@@ -123,10 +126,23 @@ function tell() {
   document.body.className = said ? "lost" : "";
   if (said) document.title = said.split(".")[0] + " - cell broadcast centre";
 }
+function keep(all) {
+  Object.keys(open).forEach(function (id) {
+    var it = all.querySelector("#" + id + " > details");
+    if (it) it.open = open[id];
+  });
+}
+function click(event) {
+  var link = event.target.closest("a[href^='#w']"), line = event.target.closest("summary");
+  if (link) open[link.hash.slice(1)] = true;
+  if (link) keep(document);
+  if (line) open[line.parentNode.parentNode.id] = !line.parentNode.open;
+}
 function take(page, date) {
   var now = page.getElementById("now"), was = by("now");
   if (!now) throw new Error("no page");
   var next = now.querySelector(".cols").innerHTML;
+  if (next !== lists) keep(now);
   if (next !== lists) was.replaceWith(now);
   else was.querySelector("header").replaceWith(now.querySelector("header"));
   lists = next;
@@ -151,6 +167,7 @@ async function renew() {
   asking = false;
   tell();
 }
+document.addEventListener("click", click);
 setInterval(renew, 2000);
 setInterval(tell, 500);
 renew();

@@ -2,7 +2,7 @@
 
 ghost use Rattle.std.specs.Prelude.{◌≡◌, ◌++◌, IfOk, OnOk, string_bytes};
 ghost use Rattle.std.specs.List.{flat_map};
-ghost use Rattle.status_pages.specs.WarningParts.{front_with, message_html, name_html, notes_html, number_html, other_sections, over_html, over_if, serial_html, silent_html, silent_if, some_warnings, stuck_html, unreached_html, urgent_sections, version_html, version_with, warning_boards, warning_front, warning_head, warning_html, warning_if, warnings_html, warnings_section, warnings_title};
+ghost use Rattle.status_pages.specs.WarningParts.{are_few, fold_front, front_with, message_html, name_html, notes_html, number_html, other_sections, over_html, over_if, serial_html, shown_content, silent_html, silent_if, some_warnings, stuck_html, unreached_html, urgent_sections, version_html, version_with, warning_boards, warning_front, warning_head, warning_html, warning_if, warnings_html, warnings_section, warnings_title};
 
 use crate::boards::{push_areas, push_board};
 use crate::contents::push_content;
@@ -16,6 +16,7 @@ use centre_past::lists::WarningRow;
 use serials::Serial;
 use status_figures::{Picture, WarningFigures, four_digits, kind_name, state_name};
 use std::alloc::{AllocError, Global};
+use warning_book::Content;
 
 fn title(standing: Standing) -> &'static str
     ensures { result.now ≡ warnings_title standing }
@@ -200,6 +201,28 @@ fn push_notes(
     push_stuck(out, picture, &warning.sheet.row)
 }
 
+/// The most warnings that are shown as a whole.
+const FEW: usize = 16;
+
+/// Whether there are so few warnings that each is shown as a whole.
+fn are_few(picture: &Picture) -> bool
+    ensures { result ≡ are_few picture.now }
+{
+    picture.warnings.as_slice().len() <= FEW
+}
+
+/// Appends where a part begins of which a line is left where it is folded.
+#[tactic(auto, unfolding(crate::specs::WarningParts::fold_front))]
+fn push_fold_front(out: &mut Vec<u8>, picture: &Picture) -> Result<(), AllocError>
+    ensures { OnOk result (out.new.items ≡ out.old.items ++ fold_front picture.now) }
+{
+    if are_few(picture) {
+        push_piece(out, Piece::OpenFront)
+    } else {
+        push_piece(out, Piece::FoldedFront)
+    }
+}
+
 /// Appends what stands above a warning's content.
 #[tactic(auto, unfolding(crate::specs::WarningParts::warning_head))]
 fn push_head(
@@ -211,6 +234,7 @@ fn push_head(
     ensures { OnOk result (out.new.items ≡ out.old.items ++ warning_head picture.now warning.now) }
 {
     push_front(alloc, out, picture, warning)?;
+    push_fold_front(out, picture)?;
     push_name(alloc, out, &warning.sheet.row)?;
     push_version(alloc, out, &warning.sheet.row)
 }
@@ -222,7 +246,21 @@ fn push_boards(alloc: Global, out: &mut Vec<u8>, warning: &WarningFigures) -> Re
 {
     push_board(alloc, out, warning.sheet.row.numbers)?;
     push_areas(alloc, out, warning.areas.as_slice())?;
+    push_piece(out, Piece::FoldEnd)?;
     push_piece(out, Piece::ArticleEnd)
+}
+
+/// Appends what a warning broadcasts, up to where its fold begins.
+#[tactic(auto, unfolding(crate::specs::WarningParts::shown_content))]
+fn push_shown_content(
+    alloc: Global,
+    out: &mut Vec<u8>,
+    content: &Option<Content>,
+) -> Result<(), AllocError>
+    ensures { OnOk result (out.new.items ≡ out.old.items ++ shown_content content.now) }
+{
+    push_content(alloc, out, content)?;
+    push_piece(out, Piece::FoldMiddle)
 }
 
 /// Appends a warning.
@@ -236,7 +274,7 @@ fn push_warning(
     ensures { OnOk result (out.new.items ≡ out.old.items ++ warning_html picture.now warning.now) }
 {
     push_head(alloc, out, picture, warning)?;
-    push_content(alloc, out, &warning.sheet.content)?;
+    push_shown_content(alloc, out, &warning.sheet.content)?;
     push_notes(alloc, out, picture, warning)?;
     push_boards(alloc, out, warning)
 }

@@ -31,8 +31,10 @@ fn pictured<L: Ledger, R: Wait + Abort>(rt: &R, alloc: Global, office: &Office<L
     let surveyed = office.survey(rt).expect(rt, "memory for a survey");
     let moments = Moments {
         taken: 0,
+        begun: 0,
         sinces: Vec::new(alloc),
         resets: Vec::new(alloc),
+        ends: Vec::new(alloc),
         downs: Vec::new(alloc),
         airs: Vec::new(alloc),
         kept: None,

@@ -73,6 +73,7 @@ impl Pictures for GivenPictures {
         }
         let picture = Picture {
             taken: second_of(rt),
+            begun: 0,
             status,
             bscs: BscList::from_vec(Vec::new(self.alloc)),
             warnings: WarningList::from_vec(Vec::new(self.alloc)),

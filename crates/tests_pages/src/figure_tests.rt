@@ -24,6 +24,9 @@ const BSCS: &str = "bsc,cells,link,generation,in_flight,message_id,serial,in_fli
 const METRICS: &str = r##"# HELP cbc_build_info The version of the program.
 # TYPE cbc_build_info gauge
 cbc_build_info{version="1.0.0"} 1
+# HELP process_start_time_seconds When the program began.
+# TYPE process_start_time_seconds gauge
+process_start_time_seconds 1764219123
 # HELP cbc_picture_timestamp_seconds When the picture was taken.
 # TYPE cbc_picture_timestamp_seconds gauge
 cbc_picture_timestamp_seconds 1764309123
@@ -98,6 +101,9 @@ cbc_silent_cells{warning="8",message_id="4352"} 0
 # TYPE cbc_bsc_link_up gauge
 cbc_bsc_link_up{bsc="1"} 1
 cbc_bsc_link_up{bsc="12"} 0
+# HELP cbc_bsc_link_down_since_timestamp_seconds When the link of a BSC ended that is down.
+# TYPE cbc_bsc_link_down_since_timestamp_seconds gauge
+cbc_bsc_link_down_since_timestamp_seconds{bsc="12"} 1764309048
 # HELP cbc_bsc_cells Cells that are registered at a BSC.
 # TYPE cbc_bsc_cells gauge
 cbc_bsc_cells{bsc="1"} 9

@@ -57,7 +57,7 @@ const PARTS: &[(&str, &str)] = &[
     ),
     (
         "a stopped warning",
-        "<article id=\"w8\" class=\"w off\"><h3><b>Warning 8</b> <span>message 4352 (hex 1100)</span> <span>serial -</span> <span>emergency</span> <span>stopped</span></h3><p class=\"text\">Emergency: earthquake and tsunami (warning type 0580)</p>",
+        "<article id=\"w8\" class=\"w off\"><details open><summary><h3><b>Warning 8</b> <span>message 4352 (hex 1100)</span> <span>serial -</span> <span>emergency</span> <span>stopped</span></h3><p class=\"text\">Emergency: earthquake and tsunami (warning type 0580)</p></summary>",
     ),
     (
         "a BSC under way",
@@ -65,7 +65,7 @@ const PARTS: &[(&str, &str)] = &[
     ),
     (
         "a BSC without a link",
-        "<h2>BSCs to look at <b>1</b></h2><div><article id=\"b12\" class=\"b bad\"><h3>BSC 12</h3><p class=\"down\">link down</p><p>cells <b>9</b></p><p>pending <b>0</b></p></article>",
+        "<h2>BSCs to look at <b>1</b></h2><div><article id=\"b12\" class=\"b bad\"><h3>BSC 12</h3><p class=\"down\">link down since 05:50:48 UTC, for <b>75</b> s</p><p>cells <b>9</b></p><p>pending <b>0</b></p></article>",
     ),
 ];
 
@@ -95,6 +95,33 @@ fn a_page_says_what_is_wrong_with_the_centre(rt: HostRuntime) {
         let found = page_of(&rt, rt.alloc(), &picture);
         yes(&rt, has(found.as_slice(), want), "the state of the centre");
     }
+}
+
+/// A centre of so many warnings.
+fn picture_of_many(rt: &impl Abort, alloc: Global, count: u32) -> Picture {
+    let mut warnings = Vec::new(alloc);
+    for number in 0..count {
+        let named = (number + 1, 4370, Kind::Cbs);
+        let warning = bare_warning(rt, alloc, named, Some(0x4031), numbers(0, 7, 0, 0));
+        warnings.push(warning).expect(rt, "memory");
+    }
+    picture_of_all(rt, alloc, warnings, &[])
+}
+
+/// Sixteen warnings are shown as a whole, and of seventeen a line each.
+#[test]
+fn many_warnings_are_folded(rt: HostRuntime) {
+    let alloc = rt.alloc();
+    let (open, folded) = (b"<details open><summary><h3>", b"<details><summary><h3>");
+    let picture = picture_of_many(&rt, alloc, 16);
+    let found = page_of(&rt, alloc, &picture);
+    yes(&rt, has(found.as_slice(), open), "16 are open");
+    yes(&rt, !has(found.as_slice(), folded), "none of 16 is folded");
+    drop(picture);
+    let picture = picture_of_many(&rt, alloc, 17);
+    let found = page_of(&rt, alloc, &picture);
+    yes(&rt, has(found.as_slice(), folded), "17 are folded");
+    yes(&rt, !has(found.as_slice(), open), "none of 17 is open");
 }
 
 /// What stands between the two.

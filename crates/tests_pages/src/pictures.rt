@@ -61,10 +61,9 @@ fn two_bscs(rt: &impl Abort, alloc: Global) -> BscList {
         message_id: 4370,
         serial: Serial::from_u16(0x4031),
     };
-    let all = [
-        bsc(rt, 1, true, Some(flight), Some(TAKEN - 7), 2),
-        bsc(rt, 12, false, None, None, 0),
-    ];
+    let mut down = bsc(rt, 12, false, None, None, 0);
+    down.ended = Some(TAKEN - 75);
+    let all = [bsc(rt, 1, true, Some(flight), Some(TAKEN - 7), 2), down];
     bscs(rt, alloc, &all)
 }
 
@@ -77,6 +76,7 @@ fn picture_of(
 ) -> Picture {
     Picture {
         taken: TAKEN,
+        begun: TAKEN - 90_000,
         status: status(false, 100_000),
         bscs,
         warnings: WarningList::from_vec(warnings),
@@ -195,6 +195,7 @@ pub(crate) fn picture_of_silent(
 pub(crate) fn bare_picture(rt: &impl Abort, alloc: Global, is_stale: bool, limit: u32) -> Picture {
     Picture {
         taken: TAKEN,
+        begun: TAKEN - 90_000,
         status: status(is_stale, limit),
         bscs: bscs(rt, alloc, &[]),
         warnings: WarningList::from_vec(Vec::new(alloc)),

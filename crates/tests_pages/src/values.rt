@@ -124,6 +124,7 @@ pub(crate) fn bsc(
         row,
         since,
         reset: None,
+        ended: None,
         down: None,
     }
 }

@@ -319,3 +319,24 @@ fn asks_again<L: Ledger, R: Wait + Abort + Net<Stream = TcpStream, Listener = Tc
 fn a_query_is_due_over_the_next_link(rt: HostRuntime) {
     asks_again::<Brand, _>(&rt, rt.alloc());
 }
+
+/// A link that has ended has, until another comes up.
+fn ends_at<L: Ledger, R: Wait + Abort + Net<Stream = TcpStream, Listener = TcpListener>>(
+    rt: &R,
+    alloc: Global,
+) {
+    let port = unused_port::<L, R>(rt, alloc);
+    same(rt, port.ended(rt), None, "no link yet");
+    port.name_link(rt, 6, 1_000);
+    same(rt, port.ended(rt), None, "the first link");
+    let _ = port.end_read(rt, 4_000);
+    same(rt, port.ended(rt), Some(4_000), "its end");
+    port.name_link(rt, 8, 9_000);
+    same(rt, port.ended(rt), None, "the second link");
+    drop(port);
+}
+
+#[test]
+fn it_is_known_when_a_link_ended(rt: HostRuntime) {
+    ends_at::<Brand, _>(&rt, rt.alloc());
+}
