@@ -31,6 +31,7 @@ fn main(rt: HostRuntime) -> ExitCode {
             &rt,
             rt.alloc(),
             &words,
+            is_logged(&rt),
             rt.stdin(),
             rt.stdout(),
             rt.stderr(),
@@ -51,9 +52,20 @@ fn serve<
     I: Read + AsRawFd + Send + Drop,
     W: Write + Send + Drop,
     E: Write + Send + Drop,
->(rt: &R, alloc: Global, words: &[String], input: I, output: W, errors: E) -> ExitCode {
+>(
+    rt: &R,
+    alloc: Global,
+    words: &[String],
+    has_levels: bool,
+    input: I,
+    output: W,
+    errors: E,
+) -> ExitCode {
     match BufReader::new(alloc, TimedInput::new(input)) {
-        Ok(reader) => ExitCode::from(serve_words(rt, alloc, words, reader, output, errors)),
+        Ok(reader) => {
+            let status = serve_words(rt, alloc, words, has_levels, reader, output, errors);
+            ExitCode::from(status)
+        }
         Err(_) => no_memory(rt),
     }
 }
@@ -61,6 +73,11 @@ fn serve<
 fn no_memory<R: Eprint>(rt: &R) -> ExitCode {
     let _ = eprintln!(rt; "cbc: out of memory");
     ExitCode::from(1)
+}
+
+/// Whether standard error goes to the system log: systemd says so in the environment, and takes the level off the front of each line.
+fn is_logged<R: env::Env + Alloc>(rt: &R) -> bool {
+    env::var(rt, "JOURNAL_STREAM").is_ok()
 }
 
 /// The words as the system gives them, the program's own first.

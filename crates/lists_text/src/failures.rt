@@ -9,7 +9,7 @@ use centre_past::lists::{FailedRow, Failure};
 use std::alloc::{AllocError, Global};
 
 /// The name of a cause (TS 48.049, 8.2.13).
-fn cause_name(cause: Cause) -> &'static str
+pub fn cause_name(cause: Cause) -> &'static str
     ensures { result.now ≡ cause_name cause.0 }
 {
     match cause.0 {

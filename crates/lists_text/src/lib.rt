@@ -20,7 +20,7 @@ mod warnings;
 pub use air::SilentRow;
 pub use bscs::{bscs_text, links_text};
 pub use cells::cells_text;
-pub use failures::failed_text;
+pub use failures::{cause_name, failed_text};
 pub use named_areas::{area_text, areas_text};
 pub use status::status_text;
 pub use warnings::{sheet_text, warnings_text};

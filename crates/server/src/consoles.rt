@@ -5,7 +5,7 @@ use console_text::ReplayFault;
 use office::desk::Desk;
 use office::office::Office;
 use server_consoles::{Consoles, OpenFault, close_socket, open_socket};
-use server_errors::{Errors, say_of_centre};
+use server_errors::{Errors, Level, say_of_centre, say_of_centre_at};
 use server_options::{ServeFault, ServeOptions};
 use std::alloc::Global;
 use std::fs::Files;
@@ -25,7 +25,7 @@ fn tell_unopened<R: Wait + Clock, E: Write + Drop>(
     fault: &OpenFault,
 ) {
     if let Ok(text) = format!(in alloc; "no consoles at {path}: {fault}") {
-        say_of_centre(rt, alloc, errors, text);
+        say_of_centre_at(rt, alloc, errors, Level::Error, text);
     }
 }
 

@@ -4,6 +4,7 @@ ghost use Rattle.std.specs.Prelude.{◌≡◌};
 ghost use Rattle.server_options.specs.Folds.{fold_every};
 
 use crate::kept_file::{begin_file, say_unopened};
+use crate::occasions::tell_loaded;
 use crate::ports::open_desk;
 use console_text::ReplayFault;
 use journal_file::{
@@ -166,6 +167,7 @@ fn enter_lines<L: Ledger, E: Write + Drop, R: Files + Wait + Clock>(
         Ok(loaded) => {
             mend(file, heading_of(options), loaded)?;
             begin_file(start.rt, start.alloc, options, errors, loaded)?;
+            tell_loaded(start.rt, start.alloc, options, errors, loaded);
             tell_torn(start.rt, start.alloc, errors, loaded);
             Ok(())
         }

@@ -1,7 +1,7 @@
 //! The file of the journal on its disk: why it can't be opened, and the folder in which it stands.
 
 use journal_file::Loaded;
-use server_errors::{Errors, say_of_centre};
+use server_errors::{Errors, Level, say_of_centre_at};
 use server_links::Shared;
 use server_options::{ServeFault, ServeOptions};
 use std::alloc::Global;
@@ -30,7 +30,7 @@ pub(crate) fn say_unopened<R: Files + Wait + Clock, E: Write + Drop>(
     };
     drop(opened);
     if let Ok(text) = text {
-        say_of_centre(rt, alloc, errors, text);
+        say_of_centre_at(rt, alloc, errors, Level::Error, text);
     }
 }
 
@@ -73,7 +73,7 @@ pub(crate) fn begin_file<R: Files + Wait + Clock, E: Write + Drop>(
             if let Ok(text) = format!(in alloc;
                 "journal {path}: its folder can't be synced: {error}"
             ) {
-                say_of_centre(rt, alloc, errors, text);
+                say_of_centre_at(rt, alloc, errors, Level::Error, text);
             }
             Err(ServeFault::Journal)
         }
@@ -94,6 +94,6 @@ pub(crate) fn tell_failed<L: Ledger, R: Wait + Clock, E: Write + Drop>(
     }
     let alloc = shared.alloc;
     if let Ok(text) = format!(in alloc; "journal {path}: it can't be written or synced any more") {
-        say_of_centre(rt, alloc, &shared.errors, text);
+        say_of_centre_at(rt, alloc, &shared.errors, Level::Error, text);
     }
 }

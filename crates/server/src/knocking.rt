@@ -7,7 +7,7 @@ use framing::FromRead;
 use journal_file::load;
 use journal_office::LastPeers;
 use link_rules::Peers;
-use server_errors::{Errors, tell_link};
+use server_errors::{Errors, Level, tell_link_at};
 use server_links::knock;
 use server_options::ServeOptions;
 use std::alloc::Global;
@@ -106,6 +106,6 @@ pub(crate) fn knock_at<R: Wait + Clock + Net, E: Write + Drop>(
         return;
     };
     if knocks.knock_from(rt, port, to) {
-        tell_link(rt, alloc, errors, b, &to, KNOCKED);
+        tell_link_at(rt, alloc, errors, Level::Notice, b, &to, KNOCKED);
     }
 }

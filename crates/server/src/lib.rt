@@ -12,6 +12,7 @@ mod journal;
 mod kept_file;
 mod knocking;
 mod looking;
+mod occasions;
 mod operators;
 mod picturing;
 mod ports;

@@ -9,7 +9,7 @@ use journal_keeper::Keeper;
 use office::desk::Desk;
 use office::office::Office;
 use server_consoles::Consoles;
-use server_errors::{Errors, say_of_centre};
+use server_errors::{Errors, Level, say_of_centre, say_of_centre_at};
 use server_http::{HttpPort, serve_http};
 use server_links::Shared;
 use server_operator::Terminal;
@@ -67,7 +67,7 @@ pub(crate) fn open_looking<
         }
         Err(error) => {
             if let Ok(text) = format!(in alloc; "no page at {address}: {error}") {
-                say_of_centre(rt, alloc, errors, text);
+                say_of_centre_at(rt, alloc, errors, Level::Error, text);
             }
             Err(ServeFault::Listen)
         }
@@ -129,7 +129,8 @@ pub(crate) fn run_looking<
             .spawn(move || serve_page(rt, shared, looking))
             .is_err()
         {
-            say_of_centre(rt, shared.alloc, &shared.errors, UNSERVED);
+            let level = Level::Warning;
+            say_of_centre_at(rt, shared.alloc, &shared.errors, level, UNSERVED);
         }
         let result = run_keeper(rt, shared, keeper, consoles, terminal);
         looking.port.close();

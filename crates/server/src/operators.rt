@@ -3,10 +3,11 @@
 ghost use Rattle.std.specs.Prelude.{◌≡◌};
 ghost use Rattle.server.specs.Ends.{ends_program};
 
+use crate::occasions::{INPUT_ENDED, QUIT, SHUTDOWN, tell_end};
 use crate::running_server::RunningServer;
 use console_text::ReplayFault;
 use server_consoles::{Consoles, accept_consoles, serve_console};
-use server_errors::say_of_centre;
+use server_errors::{Level, say_of_centre_at};
 use server_links::Shared;
 use server_operator::{Leaving, Operator, Terminal, operate};
 use server_options::PeersSource;
@@ -65,6 +66,19 @@ fn ends_program(ended: Result<Leaving, ReplayFault>) -> bool
     matches!(ended, Ok(Leaving::Quit | Leaving::Shutdown))
 }
 
+/// Says why the program ends, as the lines of standard input did. A fault is said as the program ends.
+fn tell_ended<L: Ledger, E: Write + Drop, R: Wait + Clock>(
+    rt: &R,
+    shared: &Shared<L, E>,
+    ended: Result<Leaving, ReplayFault>,
+) {
+    match ended {
+        Ok(Leaving::Quit | Leaving::Shutdown) => tell_end(rt, shared.alloc, &shared.errors, QUIT),
+        Ok(_) => tell_end(rt, shared.alloc, &shared.errors, INPUT_ENDED),
+        Err(_) => {}
+    }
+}
+
 /// Says why standard input isn't read any more, and waits until a console has the program end, or the file of the journal fails.
 fn wait_for_consoles<L: Ledger, E: Write + Drop, R: Wait + Clock>(
     rt: &R,
@@ -73,10 +87,13 @@ fn wait_for_consoles<L: Ledger, E: Write + Drop, R: Wait + Clock>(
 ) {
     if let Err(fault) = ended {
         if let Ok(text) = format!(in shared.alloc; "standard input isn't read any more: {fault}") {
-            say_of_centre(rt, shared.alloc, &shared.errors, text);
+            say_of_centre_at(rt, shared.alloc, &shared.errors, Level::Warning, text);
         }
     }
     shared.wait_closed(rt);
+    if !shared.has_failed(rt) {
+        tell_end(rt, shared.alloc, &shared.errors, SHUTDOWN);
+    }
 }
 
 /// Answers the lines of standard input. Where there are consoles, only `quit` or `shutdown` ends the program there.
@@ -103,12 +120,15 @@ fn run_terminal<
     };
     let ended = operate(rt, &operator, terminal);
     if !has_consoles {
+        tell_ended(rt, shared, ended);
         return match ended {
             Ok(_) => Ok(()),
             Err(fault) => Err(fault),
         };
     }
-    if !ends_program(ended) {
+    if ends_program(ended) {
+        tell_ended(rt, shared, ended);
+    } else {
         wait_for_consoles(rt, shared, ended);
     }
     Ok(())
@@ -149,13 +169,15 @@ pub(crate) fn run_operators<
                 .spawn(move || serve_at(rt, shared, consoles, slot))
                 .is_ok();
             if !is_started || consoles.begin(rt).is_err() {
-                say_of_centre(rt, shared.alloc, &shared.errors, FEWER);
+                let level = Level::Warning;
+                say_of_centre_at(rt, shared.alloc, &shared.errors, level, FEWER);
                 break;
             }
         }
         let is_started = scope.spawn(move || accept_at(rt, shared, consoles)).is_ok();
         if !is_started {
-            say_of_centre(rt, shared.alloc, &shared.errors, UNTAKEN);
+            let level = Level::Warning;
+            say_of_centre_at(rt, shared.alloc, &shared.errors, level, UNTAKEN);
         }
         let result = run_terminal(rt, shared, true, terminal);
         close_consoles(rt, shared, consoles);

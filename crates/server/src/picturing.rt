@@ -11,7 +11,7 @@ use office::question::Question;
 use office::seen::SeenValue;
 use office::surveyed::Surveyed;
 use office_picture::{Moments, down_count, picture};
-use server_errors::say_of_centre;
+use server_errors::{Level, say_of_centre_at};
 use server_http::Pictures;
 use server_links::{Shared, second_of};
 use server_ports::Port;
@@ -248,6 +248,7 @@ impl<'a, L: Ledger, E: Write + Drop> Pictures for RunningPictures<'a, L, E> {
     }
 
     fn tell<R: Wait + Clock>(&self, rt: &R, what: &str) {
-        say_of_centre(rt, self.shared.alloc, &self.shared.errors, what);
+        let level = Level::Warning;
+        say_of_centre_at(rt, self.shared.alloc, &self.shared.errors, level, what);
     }
 }

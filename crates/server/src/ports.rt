@@ -103,6 +103,23 @@ fn tell_listening<R: Wait + Clock, L: Ledger, E: Write + Drop>(
     }
 }
 
+/// Says how many BSCs and addresses stand in the file of peers, where there is one.
+fn tell_peers<R: Wait + Clock, E: Write + Drop>(
+    rt: &R,
+    alloc: Global,
+    options: &ServeOptions,
+    errors: &Errors<E>,
+    peers: Option<&Peers>,
+) {
+    let (Some(peers), Some(path)) = (peers, &options.peers) else {
+        return;
+    };
+    let count = peers.count();
+    if let Ok(text) = format!(in alloc; "peers: {count} blocks of addresses were read from {path}") {
+        say_of_centre(rt, alloc, errors, text);
+    }
+}
+
 /// What is there before a server's threads begin.
 #[derive(Drop)]
 pub(crate) struct Opened<L: Ledger> {
@@ -125,6 +142,7 @@ pub(crate) fn open_ports<
     errors: &Errors<E>,
 ) -> Result<Opened<L>, ServeFault> {
     let peers = read_peers(rt, alloc, options, errors)?;
+    tell_peers(rt, alloc, options, errors, peers.as_ref());
     let Ok(peers_file) = peers_name(alloc, options) else {
         return Err(ServeFault::Lines(ReplayFault::Memory));
     };

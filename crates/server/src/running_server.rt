@@ -6,7 +6,7 @@ use centre_events::refusal::Refusal;
 use centre_past::lists::WarningSheet;
 use journal_keeper::KeptUpTo;
 use server_consoles::Program;
-use server_errors::say_of_centre;
+use server_errors::{Level, Said, say_of_centre_at};
 use server_links::{Renamed, Shared, second_of};
 use server_operator::{Air, Server};
 use server_options::PeersSource;
@@ -49,7 +49,7 @@ impl<'a, L: Ledger, E: Write + Drop, F: PeersSource> RunningServer<'a, L, E, F> 
         let links = self.shared.ports.len();
         let alloc = self.shared.alloc;
         if let Ok(text) = format!(in alloc; "BSC {number} has no port: --links is {links}") {
-            say_of_centre(rt, alloc, &self.shared.errors, text);
+            say_of_centre_at(rt, alloc, &self.shared.errors, Level::Warning, text);
         }
     }
 }
@@ -151,7 +151,7 @@ impl<'a, L: Ledger, E: Write + Drop, F: PeersSource> Server for RunningServer<'a
         if let Ok(text) = format!(in alloc;
             "warning {warning}: BSC {b} has warning {other} of another period beside it, and may refuse one: give all warnings of a BSC one period"
         ) {
-            say_of_centre(rt, alloc, &self.shared.errors, text);
+            say_of_centre_at(rt, alloc, &self.shared.errors, Level::Warning, text);
         }
     }
 
@@ -163,7 +163,7 @@ impl<'a, L: Ledger, E: Write + Drop, F: PeersSource> Server for RunningServer<'a
         if let Ok(text) = format!(in alloc;
             "warning {warning}: BSC {b} is down, what it has on air stays until it connects"
         ) {
-            say_of_centre(rt, alloc, &self.shared.errors, text);
+            say_of_centre_at(rt, alloc, &self.shared.errors, Level::Warning, text);
         }
     }
 }
@@ -174,6 +174,21 @@ impl<'a, L: Ledger, E: Write + Drop, F: PeersSource> Program for RunningServer<'
     }
 
     fn tell<R: Wait + Clock>(&self, rt: &R, what: &str) {
-        say_of_centre(rt, self.shared.alloc, &self.shared.errors, what);
+        let level = Level::Warning;
+        say_of_centre_at(rt, self.shared.alloc, &self.shared.errors, level, what);
+    }
+
+    fn said_count<R: Wait>(&self, rt: &R) -> u64 {
+        self.shared.errors.said_count(rt)
+    }
+
+    fn said_after<R: Wait>(
+        &self,
+        rt: &R,
+        alloc: Global,
+        place: u64,
+    ) -> Result<(u64, Vec<u8>), AllocError> {
+        let Said { place, text } = self.shared.errors.said_after(rt, alloc, place)?;
+        Ok((place, text))
     }
 }

@@ -7,6 +7,7 @@ use crate::desks::desks_of;
 use crate::journal::{begin_journal, open_journal};
 use crate::kept_file::tell_failed;
 use crate::looking::{Looking, open_looking, open_looking_desk, run_looking};
+use crate::occasions::tell_begin;
 use crate::ports::{Opened, open_desks, open_ports};
 use crate::settling::settle;
 use console_text::{ReplayFault, fault_words};
@@ -114,6 +115,7 @@ fn open_all<
     options: &ServeOptions,
     errors: &Errors<E>,
 ) -> Result<Begun<L>, ServeFault> {
+    tell_begin(rt, alloc, options, errors);
     let file = open_journal(rt, alloc, options, errors)?;
     let opened = open_ports(rt, alloc, options, errors)?;
     let looking = open_looking(rt, alloc, options, errors)?;
@@ -337,7 +339,7 @@ pub fn serve<
         options,
         reader,
         writer,
-        Errors::new(alloc, errors),
+        Errors::with_levels(alloc, errors, options.has_levels),
     ) {
         Ok(()) => 0,
         Err((errors, fault)) => {
@@ -348,7 +350,8 @@ pub fn serve<
 }
 
 /// Runs the server with the options in the words of a command line, as `serve` does. The words are to ask for the server:
-/// `console::run` answers `None` for them. Of other words it says `cbc: out of memory`, and the status is 1. The status is 2
+/// `console::run` answers `None` for them. `has_levels` is whether a system log reads standard error, so that each line begins with its
+/// level. Of other words it says `cbc: out of memory`, and the status is 1. The status is 2
 /// where the network, the ports or the address of the page are bad: `cbc: bad plmn`, `cbc: bad ports` or `cbc: bad http` is said then.
 pub fn serve_words<
     R: Files<File = File>
@@ -361,9 +364,20 @@ pub fn serve_words<
     I: BufRead + Send + Drop,
     W: Write + Send + Drop,
     E: Write + Send + Drop,
->(rt: &R, alloc: Global, words: &[String], reader: I, writer: W, mut errors: E) -> u8 {
+>(
+    rt: &R,
+    alloc: Global,
+    words: &[String],
+    has_levels: bool,
+    reader: I,
+    writer: W,
+    mut errors: E,
+) -> u8 {
     let (status, text) = match read_options(alloc, words) {
-        Ok(options) => return serve(rt, alloc, &options, reader, writer, errors),
+        Ok(mut options) => {
+            options.has_levels = has_levels;
+            return serve(rt, alloc, &options, reader, writer, errors);
+        }
         Err(OptionsFault::BadPlmn) => (2, b"cbc: bad plmn\n".as_slice()),
         Err(OptionsFault::BadPorts) => (2, b"cbc: bad ports\n".as_slice()),
         Err(OptionsFault::BadHttp) => (2, b"cbc: bad http\n".as_slice()),

@@ -5,7 +5,7 @@ use console_text::ReplayFault;
 use journal_file::DiskFile;
 use journal_keeper::Keeper;
 use server_consoles::Consoles;
-use server_errors::say_of_centre;
+use server_errors::{Level, say_of_centre_at};
 use server_links::{
     Shared, accept_links, close_all, close_port, keep, read_links, simulate, watch, write_links,
 };
@@ -78,7 +78,8 @@ fn run_watch<
 ) -> Result<(), ReplayFault> {
     thread::scope(thread::scope_env(), rt, move |scope| {
         if scope.spawn(move || watch(rt, shared)).is_err() {
-            say_of_centre(rt, shared.alloc, &shared.errors, UNWATCHED);
+            let level = Level::Warning;
+            say_of_centre_at(rt, shared.alloc, &shared.errors, level, UNWATCHED);
         }
         run_simulators(rt, shared, ports, consoles, terminal)
     })

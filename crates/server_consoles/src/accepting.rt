@@ -73,20 +73,24 @@ fn take_next<L: Ledger, P: Program, R: Wait + Clock>(
 }
 
 /// Takes the connections of consoles, none of which is waited for, until the consoles are closing or the program ends. Those that
-/// follow the journal and have ended are told so within a quarter of a second.
+/// follow the journal and have ended are told so within a quarter of a second, and those that follow it are woken as soon where a line
+/// was said on standard error.
 pub fn accept_consoles<L: Ledger, P: Program, R: Wait + Clock>(
     rt: &R,
     operator: &Operator<'_, L, P>,
     consoles: &Consoles<L>,
 ) {
     let mut was_told = false;
+    let mut said = operator.server.said_count(rt);
     for _ in rt.forever() {
         if consoles.is_closing(rt) || operator.server.is_ending(rt) {
             break;
         }
         was_told = take_next(rt, operator, consoles, was_told);
-        if consoles.ends_watches(rt) {
+        let count = operator.server.said_count(rt);
+        if consoles.ends_watches(rt) || count != said {
             operator.office.interrupt(rt);
         }
+        said = count;
     }
 }

@@ -44,14 +44,47 @@ fn hand_on<L: Ledger, P: Program, R: Wait>(
     }
 }
 
-/// Writes each entry of the journal to the connection as it comes, from now on, until the connection or the program ends. Of the
-/// entries that are there when the program is told to end none is left out.
+/// Hands on the lines that were said on standard error behind that number. The answer is the number of the last; `None` where nothing
+/// more is handed on.
+fn hand_on_said<L: Ledger, P: Program, R: Wait>(
+    rt: &R,
+    operator: &Operator<'_, L, P>,
+    mut stream: &UnixStream,
+    place: u64,
+) -> Option<u64> {
+    if operator.server.said_count(rt) <= place {
+        return Some(place);
+    }
+    let (last, text) = operator.server.said_after(rt, operator.alloc, place).ok()?;
+    match stream.write_all(text.as_slice()) {
+        Ok(()) => Some(last),
+        Err(_) => None,
+    }
+}
+
+/// Hands on the next entries, and the lines that were said. The answer is the numbers of the last ones; `None` where nothing more is
+/// handed on.
+fn hand_on_both<L: Ledger, P: Program, R: Wait>(
+    rt: &R,
+    operator: &Operator<'_, L, P>,
+    stream: &UnixStream,
+    place: u64,
+    said: u64,
+) -> Option<(u64, u64)> {
+    let last = hand_on(rt, operator, stream, place)?;
+    let last_said = hand_on_said(rt, operator, stream, said)?;
+    Some((last, last_said))
+}
+
+/// Writes each entry of the journal to the connection as it comes, from now on, and each line that is said on standard error, until the
+/// connection or the program ends. Of the entries that are there when the program is told to end none is left out.
 pub(crate) fn follow<L: Ledger, P: Program, R: Wait>(
     rt: &R,
     operator: &Operator<'_, L, P>,
     connection: &Connection,
 ) {
     let mut place = operator.office.position(rt);
+    let mut said = operator.server.said_count(rt);
     let mut interrupts = 0;
     connection.watch();
     for _ in rt.forever() {
@@ -64,8 +97,11 @@ pub(crate) fn follow<L: Ledger, P: Program, R: Wait>(
         if has_all {
             interrupts = progress.interrupts;
         }
-        match hand_on(rt, operator, &connection.stream, place) {
-            Some(last) => place = last,
+        match hand_on_both(rt, operator, &connection.stream, place, said) {
+            Some((last, last_said)) => {
+                place = last;
+                said = last_said;
+            }
             None => break,
         }
     }

@@ -1,3 +1,5 @@
+pub mod CellLines
 pub mod ErrorLines
 pub mod Queues
+pub mod SaidLines
 pub mod UtcTexts

@@ -2,8 +2,9 @@
 
 ghost use Rattle.std.specs.Prelude.{◌≡◌, IfOk, option_map, string_bytes};
 ghost use Rattle.std.specs.Net.Text.{socket_text};
-ghost use Rattle.server_errors.specs.ErrorLines.{bsc_text, line_text, link_text};
+ghost use Rattle.server_errors.specs.ErrorLines.{bsc_text, line_text, link_text, marked};
 
+use crate::level::Level;
 use cell_register::BscId;
 use std::alloc::{AllocError, Global};
 use std::net::SocketAddr;
@@ -37,4 +38,14 @@ pub fn link_text(
 {
     let number = b.number();
     format!(in alloc; "BSC {number} ({peer}): {what}")
+}
+
+/// The line with its level, as a system log reads it.
+pub fn marked(alloc: Global, level: Level, line: &[u8]) -> Result<Vec<u8>, AllocError>
+    ensures { IfOk result (λ text. text.items ≡ marked level line.now) }
+{
+    let mut text = Vec::new(alloc);
+    text.extend_from_slice(&[b'<', 48 + level.number(), b'>'])?;
+    text.extend_from_slice(line)?;
+    Ok(text)
 }

@@ -3,6 +3,7 @@
 ghost use Rattle.std.specs.Prelude.{◌≡◌, ◌⊎◌, ◌++◌, ◌∷◌, [], false, true, length, nat_eq};
 ghost use Rattle.server_errors.specs.Queues.{one_more};
 
+use crate::line::Line;
 use std::alloc::Global;
 use std::mem;
 
@@ -13,7 +14,7 @@ const MOST_LINES: usize = 10_000;
 #[derive(Drop)]
 pub(crate) struct Queue {
     alloc: Global,
-    lines: Vec<String>,
+    lines: Vec<Line>,
     /// How many lines were left out since the last that was said.
     left_out: u64,
     /// No line more is to be said.
@@ -35,7 +36,7 @@ impl Queue {
     }
 
     /// Puts a line at the end. It is left out where too many wait, or there is no memory.
-    pub(crate) fn push(&mut self, line: String)
+    pub(crate) fn push(&mut self, line: Line)
         ensures put { ((self.new.lines.items ≡ self.old.lines.items ++ line ∷ []) × (self.new.left_out ≡ self.old.left_out))
             ⊎ ((self.new.lines.items ≡ self.old.lines.items) × (self.new.left_out ≡ one_more self.old.left_out)) }
         ensures closing { self.new.is_closing ≡ self.old.is_closing }
@@ -46,7 +47,7 @@ impl Queue {
     }
 
     /// Takes all lines out, and how many were left out.
-    pub(crate) fn take(&mut self) -> (Vec<String>, u64)
+    pub(crate) fn take(&mut self) -> (Vec<Line>, u64)
         ensures lines { result.0.items ≡ self.old.lines.items }
         ensures count { result.1 ≡ self.old.left_out }
         ensures none { (self.new.lines.items ≡ []) × (self.new.left_out ≡ 0) }

@@ -3,7 +3,7 @@
 use crate::shared::Shared;
 use centre_events::refusal::Refusal;
 use link_rules::FoldPace;
-use server_errors::say_of_centre;
+use server_errors::{Level, say_of_centre, say_of_centre_at};
 use std::io::Write;
 use std::sync::Wait;
 use std::sync::ledger::Ledger;
@@ -60,7 +60,8 @@ impl<L: Ledger, E: Write + Drop> Shared<L, E> {
             }
             Err(Refusal::Memory) => {
                 if pace.put_off() {
-                    say_of_centre(rt, self.alloc, &self.errors, NO_MEMORY);
+                    let level = Level::Warning;
+                    say_of_centre_at(rt, self.alloc, &self.errors, level, NO_MEMORY);
                 }
             }
             Err(_) => {}

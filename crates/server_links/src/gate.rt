@@ -117,6 +117,8 @@ impl<'a, L: Ledger, E: Write + Drop, C: Wait + Clock> Gate for LinkGate<'a, L, E
 
     fn entered<R: Wait>(&self, _rt: &R, receipt: &Receipt) {
         self.shared.hear_report(self.rt, self.port, receipt);
+        self.shared
+            .tell_report(self.rt, self.port, &self.peer, receipt);
     }
 
     fn pass<R: Wait>(&self, _rt: &R, _b: BscId, passage: Passage<'_>) -> bool {

@@ -5,6 +5,7 @@ use crate::shared::Shared;
 use journal_file::DiskFile;
 use journal_keeper::{KeepFault, Keeper, keep_journal};
 use journal_office::OfficeJournal;
+use server_errors::Level;
 use std::io::Write;
 use std::sync::Wait;
 use std::sync::ledger::Ledger;
@@ -33,7 +34,8 @@ pub fn keep<L: Ledger, E: Write + Drop, R: Wait + Clock>(
         peers: shared,
     };
     if let Err(fault) = keep_journal(rt, &journal, kept, &mut keeper) {
-        shared.errors.say(rt, words_of(fault));
+        let words = words_of(fault);
+        shared.errors.say(rt, shared.alloc, Level::Error, words);
         close_all(rt, shared);
     }
 }

@@ -6,7 +6,7 @@
 //! reply is said. `resetting` has a BSC forget what it broadcasts when it connects, and `awaiting` waits until it has. `alive` asks a BSC
 //! that says nothing whether it is there, `querying` one what is on air where no operator does. `folding` folds the journal where that is
 //! due, `keeping` keeps it in a file, with where links came from (`link_peers`). `knocking` sends a SYN there when a server starts. `broadcasts`
-//! takes what replies say of broadcasts (`counted`).
+//! takes what replies say of broadcasts (`counted`), and `telling` says what reports came to.
 //! What happens to links is said by a thread of its own (`server_errors`). No clause says what a socket gives or when a thread goes
 //! on; what is promised of the two sides of a link stands in `link_worker`, and by which rules a link goes on in `link_rules`.
 #![tactic(auto)]
@@ -35,6 +35,7 @@ mod shared;
 mod simulating;
 mod sockaddr;
 mod tcp;
+mod telling;
 mod watching;
 mod writing;
 

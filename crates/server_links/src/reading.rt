@@ -11,7 +11,7 @@ use centre_events::refusal::Refusal;
 use framing::FromRead;
 use link_worker::{End, read_side};
 use office::desk::Desk;
-use server_errors::tell;
+use server_errors::{Level, tell};
 use server_ports::{Connection, Ended, Job, Port, SideEnd, cause_of};
 use std::io::Write;
 use std::sync::Wait;
@@ -158,7 +158,7 @@ fn serve_link<L: Ledger, E: Write + Drop, R: Wait + Clock>(
 ) {
     port.name_link(rt, generation, now_of(rt));
     if let Ok(text) = format!(in shared.alloc; "link {generation} is up") {
-        shared.tell(rt, port, &connection.peer, text);
+        shared.tell_at(rt, port, &connection.peer, Level::Notice, text);
     }
     let read = run_link(rt, shared, port, desk, connection, generation);
     let ended = port.end_read(rt, now_of(rt));

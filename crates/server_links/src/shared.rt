@@ -10,7 +10,7 @@ use centre_events::refusal::Refusal;
 use journal_keeper::{Kept, KeptUpTo, wait_kept};
 use link_rules::FoldPace;
 use office::office::Office;
-use server_errors::{Clearance, Errors, tell_link};
+use server_errors::{Clearance, Errors, Level, tell_link_at};
 use server_ports::Port;
 use std::alloc::Global;
 use std::fmt::Display;
@@ -45,7 +45,7 @@ pub struct Shared<L: Ledger, E: Drop> {
 }
 
 impl<L: Ledger, E: Write + Drop> Shared<L, E> {
-    /// Has a line of a link said.
+    /// Has a line of a link said, which is a warning.
     pub(crate) fn tell<R: Wait + Clock, D: Display + Drop>(
         &self,
         rt: &R,
@@ -53,7 +53,19 @@ impl<L: Ledger, E: Write + Drop> Shared<L, E> {
         peer: &SocketAddr,
         what: D,
     ) {
-        tell_link(rt, self.alloc, &self.errors, port.bsc, peer, what);
+        self.tell_at(rt, port, peer, Level::Warning, what);
+    }
+
+    /// Has a line of a link said, at that level.
+    pub(crate) fn tell_at<R: Wait + Clock, D: Display + Drop>(
+        &self,
+        rt: &R,
+        port: &Port<L>,
+        peer: &SocketAddr,
+        level: Level,
+        what: D,
+    ) {
+        tell_link_at(rt, self.alloc, &self.errors, level, port.bsc, peer, what);
     }
 }
 

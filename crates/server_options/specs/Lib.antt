@@ -1,2 +1,3 @@
+pub mod BeginTexts
 pub mod Faults
 pub mod Folds

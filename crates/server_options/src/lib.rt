@@ -3,11 +3,13 @@
 //! Begin with `options`.
 #![tactic(auto)]
 
+mod beginning;
 mod fault;
 mod options;
 mod peers_file;
 mod peers_source;
 
+pub use beginning::begin_text;
 pub use fault::ServeFault;
 pub use options::{OptionsFault, ServeOptions, read_options};
 pub use peers_file::{PeersError, peers_name, read_peers};

@@ -51,6 +51,8 @@ pub struct ServeOptions {
     pub consoles: u32,
     /// The address, `HOST:PORT`, of the page for those who only look; without it there is none.
     pub http: Option<String>,
+    /// Whether a system log reads standard error, so that each line begins with its level.
+    pub has_levels: bool,
     /// How fast a peer is let in.
     pub limits: LinkLimits,
     ghost few: { journal_limit ≤ 4000000 },
@@ -276,6 +278,7 @@ fn options_of(alloc: Global, matches: &ArgMatches<'_>) -> Result<ServeOptions, O
         console,
         consoles: asked_consoles(matches),
         http,
+        has_levels: false,
         limits: LinkLimits::usual(),
     })
 }

@@ -4,7 +4,7 @@ use crate::fault::ServeFault;
 use crate::options::ServeOptions;
 use console_text::ReplayFault;
 use link_rules::{Peers, PeersFault};
-use server_errors::{Errors, say_of_centre};
+use server_errors::{Errors, Level, say_of_centre_at};
 use std::alloc::{AllocError, Global};
 use std::fs::{Files, OpenOptions};
 use std::io;
@@ -70,7 +70,7 @@ fn refuse<R: Wait + Clock, E: Write + Drop>(
         return ServeFault::Lines(ReplayFault::Memory);
     }
     if let Ok(text) = format!(in alloc; "peers: {why}") {
-        say_of_centre(rt, alloc, errors, text);
+        say_of_centre_at(rt, alloc, errors, Level::Error, text);
     }
     ServeFault::Peers
 }

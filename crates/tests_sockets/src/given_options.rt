@@ -74,6 +74,7 @@ pub(crate) fn limited(
         keep: None,
         console: None,
         http: None,
+        has_levels: false,
         consoles: 16,
         limits,
     }

@@ -51,11 +51,13 @@ pub(crate) enum Act {
     Asks(&'static str, &'static str, &'static str),
     /// A console at that socket file follows the journal from now on, to which BSC 1 is ordered again until an entry comes to it.
     Follows(&'static str),
+    /// The console that followed last is shown this text within a while.
+    Sees(&'static str),
     /// The figures of the page come to have these lines at once.
     Shows(&'static [&'static str]),
     /// A line with this text comes on standard error. The lines before it are passed over.
     Says(&'static str),
-    /// The next line on standard error says that so many ports are listened on.
+    /// The next line on standard error, behind that of the start, says that so many ports are listened on.
     Listens(u16),
     /// A peer connects from 127.0.0.x, x the first number, to the port of the BSC. The operator has had an answer before.
     Connects(u8, u16),
@@ -225,6 +227,27 @@ fn follows_on<R: Abort + Clock + Net>(rt: &R, alloc: Global, stage: &mut Stage, 
     yes(rt, false, path);
 }
 
+/// How often a console that follows is looked at, a fiftieth of a second each.
+const MOST_TURNS: u32 = 1_000;
+
+/// The console that followed last is shown the text.
+fn sees(rt: &impl Abort, alloc: Global, stage: &mut Stage, text: &str) {
+    let console = stage.consoles.last_mut().expect(rt, "a console");
+    let mut shown = Vec::new(alloc);
+    for _ in 0..MOST_TURNS {
+        let mut octets = [0u8; 200];
+        if let Ok(count) = console.read(&mut octets) {
+            shown
+                .extend_from_slice(&octets[..count])
+                .expect(rt, "memory");
+        }
+        if has(shown.as_slice(), text.as_bytes()) {
+            return;
+        }
+    }
+    yes(rt, false, text);
+}
+
 /// Passes over the lines of standard error until one has the text.
 fn says(rt: &impl Abort, alloc: Global, stage: &mut Stage, text: &str) {
     for _ in 0..MOST_LOOKS {
@@ -262,8 +285,10 @@ fn listening(rt: &impl Abort, alloc: Global, port: u16, links: u16) -> String {
     text.expect(rt, "memory")
 }
 
-/// The next line on standard error says that so many ports are listened on, with a time from the start of the server to now.
+/// The next line on standard error, behind that of the start, says that so many ports are listened on, with a time from the start of the
+/// server to now.
 fn listens<R: Abort + Clock>(rt: &R, alloc: Global, stage: &mut Stage, links: u16) {
+    says(rt, alloc, stage, "cbc: started: version ");
     let line = next_line(rt, alloc, &mut stage.said);
     let what = listening(rt, alloc, stage.base, links);
     let before = line_at(rt, alloc, stage.begin, what.as_str());
@@ -336,6 +361,7 @@ fn does<R: Abort + Clock + Net<Stream = TcpStream, Listener = TcpListener> + Tex
         Act::Ends => ends(rt, stage),
         Act::Asks(path, line, answer) => yes(rt, is_told(rt, path, line, answer), answer),
         Act::Follows(path) => follows_on(rt, alloc, stage, path),
+        Act::Sees(text) => sees(rt, alloc, stage, text),
         Act::Shows(lines) => shows(rt, alloc, lines),
         Act::Says(text) => says(rt, alloc, stage, text),
         Act::Listens(links) => listens(rt, alloc, stage, *links),
@@ -461,7 +487,7 @@ fn runs<
     } = near;
     match options {
         Some(options) => serve(rt, alloc, options, typed, written, errors),
-        None => serve_words(rt, alloc, words, typed, written, errors),
+        None => serve_words(rt, alloc, words, false, typed, written, errors),
     }
 }
 

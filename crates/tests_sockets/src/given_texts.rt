@@ -78,11 +78,25 @@ fn without_time(line: &[u8]) -> &[u8] {
     }
 }
 
-/// Adds the line without its time, and without an address in parentheses behind the number of a BSC. What is listened on isn't
-/// added.
+/// Whether the line says how the server began or why it ends, where nothing is wrong.
+fn is_usual(line: &[u8]) -> bool {
+    for front in [
+        b"cbc: started: ".as_slice(),
+        b"cbc: listening: ",
+        b"cbc: ends: ",
+    ] {
+        if line.starts_with(front) {
+            return true;
+        }
+    }
+    has(line, b" were read from ")
+}
+
+/// Adds the line without its time, and without an address in parentheses behind the number of a BSC. What a server says as it begins and
+/// as it ends isn't added.
 fn add_plain(rt: &impl Abort, plain: &mut Vec<u8>, line: &[u8]) {
     let line = without_time(line);
-    if line.starts_with(b"cbc: listening: ") {
+    if is_usual(line) {
         return;
     }
     let is_bsc = line.starts_with(b"cbc: BSC ");

@@ -49,6 +49,8 @@ mod silent_tests;
 #[cfg(test)]
 mod socket_console;
 #[cfg(test)]
+mod telling_tests;
+#[cfg(test)]
 mod text_files;
 #[cfg(test)]
 mod word_tests;

@@ -70,6 +70,6 @@ fn an_output_that_nobody_reads_is_a_fault(rt: HostRuntime) {
     drop(far);
     let typed = b"quit\n".as_slice();
     let errors: Vec<u8> = Vec::new(alloc);
-    let status = serve_words(&rt, alloc, words.as_slice(), typed, near, errors);
+    let status = serve_words(&rt, alloc, words.as_slice(), false, typed, near, errors);
     same(&rt, status, 1, "the status");
 }
