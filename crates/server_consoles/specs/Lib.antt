@@ -1,3 +1,4 @@
+pub mod HalfLines
 pub mod LastWords
 pub mod Slots
 pub mod WatchTexts

@@ -11,6 +11,9 @@ use std::time::Duration;
 /// How long a write waits for a console that doesn't read, in seconds.
 const MOST_WAIT: u64 = 10;
 
+/// How long a read waits before it is looked again whether it goes on, in seconds.
+const TURN: u64 = 1;
+
 /// A connection that is a console, as the threads of the consoles share it.
 #[derive(Drop)]
 pub(crate) struct Connection {
@@ -19,17 +22,31 @@ pub(crate) struct Connection {
     is_watching: AtomicBool,
     /// It doesn't any more, since its other end is closed.
     is_over: AtomicBool,
+    /// It was silent within a line for too long.
+    is_slow: AtomicBool,
 }
 
 impl Connection {
-    /// A write to the connection fails where it has waited for too long.
+    /// A write to the connection fails where it has waited for too long; a read answers after a second that nothing has come.
     pub(crate) fn new(stream: UnixStream) -> io::Result<Connection> {
         stream.set_write_timeout(Some(Duration::from_secs(MOST_WAIT)))?;
+        stream.set_read_timeout(Some(Duration::from_secs(TURN)))?;
         Ok(Connection {
             stream,
             is_watching: AtomicBool::new(false),
             is_over: AtomicBool::new(false),
+            is_slow: AtomicBool::new(false),
         })
+    }
+
+    /// It was silent within a line for too long.
+    pub(crate) fn mark_slow(&self) {
+        self.is_slow.store(true, Ordering::SeqCst);
+    }
+
+    /// Whether it was silent within a line for too long.
+    pub(crate) fn was_slow(&self) -> bool {
+        self.is_slow.load(Ordering::SeqCst)
     }
 
     /// Ends reading, writing or both: whoever does goes on.

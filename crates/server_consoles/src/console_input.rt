@@ -1,37 +1,72 @@
 //! What is read from a console.
 
+use crate::connection::Connection;
+use crate::half_line::HalfLine;
 use std::io;
 use std::io::{ErrorKind, Read};
-use std::os::unix::net::UnixStream;
+use std::time::Clock;
 
-/// Reads from a connection. A line counts once its end has come: where the connection ends inside of one, the read fails.
+/// Reads from a connection. A line counts once its end has come: where the connection ends inside of one, the read fails, and so it does
+/// where nothing more of one comes for too long. Where nothing comes and no line has begun, a read answers `WouldBlock` each second.
 #[derive(Drop)]
-pub(crate) struct ConsoleInput<'a> {
-    stream: &'a UnixStream,
-    /// The last octet that was read ends no line.
-    is_inside: bool,
+pub(crate) struct ConsoleInput<'a, R> {
+    rt: &'a R,
+    connection: &'a Connection,
+    half: HalfLine,
 }
 
-impl<'a> ConsoleInput<'a> {
-    pub(crate) fn new(stream: &'a UnixStream) -> ConsoleInput<'a> {
-        ConsoleInput {
-            stream,
-            is_inside: false,
-        }
+/// The time, in milliseconds of a clock that goes on; 0 where it can't be read.
+fn now_of<R: Clock>(rt: &R) -> u64 {
+    match rt.monotonic() {
+        Ok(now) => u64::try_from(now.as_millis()).unwrap_or(u64::MAX),
+        Err(_) => 0,
     }
 }
 
-impl Read for ConsoleInput<'_> {
-    fn read(&mut self, buf: &mut [u8]) -> io::Result<usize> {
-        let count = self.stream.read(buf)?;
-        match buf[..count].last() {
-            Some(octet) => self.is_inside = *octet != b'\n',
-            None => {
-                if self.is_inside {
-                    return Err(io::Error::from(ErrorKind::UnexpectedEof));
-                }
-            }
+impl<'a, R: Clock> ConsoleInput<'a, R> {
+    pub(crate) fn new(
+        rt: &'a R,
+        connection: &'a Connection,
+        most_silence: u64,
+    ) -> ConsoleInput<'a, R> {
+        ConsoleInput {
+            rt,
+            connection,
+            half: HalfLine::new(most_silence),
         }
-        Ok(count)
+    }
+
+    /// Takes what came: nothing, where the connection has ended.
+    fn take(&mut self, octets: &[u8]) -> io::Result<()> {
+        match octets.last() {
+            Some(octet) => {
+                self.half.heard(now_of(self.rt), *octet == b'\n');
+                Ok(())
+            }
+            None if self.half.has_begun() => Err(io::Error::from(ErrorKind::UnexpectedEof)),
+            None => Ok(()),
+        }
+    }
+
+    /// What a read comes to that gave nothing for a while.
+    fn paused(&self, error: io::Error) -> io::Error {
+        if error.kind() == ErrorKind::WouldBlock && self.half.is_over(now_of(self.rt)) {
+            self.connection.mark_slow();
+            return io::Error::from(ErrorKind::TimedOut);
+        }
+        error
+    }
+}
+
+impl<R: Clock> Read for ConsoleInput<'_, R> {
+    fn read(&mut self, buf: &mut [u8]) -> io::Result<usize> {
+        let mut stream = &self.connection.stream;
+        match stream.read(buf) {
+            Ok(count) => {
+                self.take(&buf[..count])?;
+                Ok(count)
+            }
+            Err(error) => Err(self.paused(error)),
+        }
     }
 }

@@ -3,6 +3,7 @@
 use crate::connection::Connection;
 use crate::console::Console;
 use crate::consoles_state::ConsolesState;
+use crate::half_line::MOST_SILENCE;
 use crate::next::Next;
 use std::alloc::{AllocError, Global};
 use std::net::Shutdown;
@@ -23,6 +24,8 @@ pub struct Consoles<L: Ledger> {
     pub(crate) listener: UnixListener,
     /// The consoles, a slot each.
     pub consoles: Vec<Console<L>>,
+    /// For how long a console may be silent within a line, in milliseconds.
+    pub(crate) most_silence: u64,
     state: Mutex<ConsolesState>,
     changed: Condvar,
 }
@@ -33,6 +36,7 @@ impl<L: Ledger> Drop for Consoles<L> {
         let Consoles {
             listener: _listener,
             consoles: _consoles,
+            most_silence: _most_silence,
             state: _state,
             changed: _changed,
         } = self;
@@ -53,9 +57,15 @@ impl<L: Ledger> Consoles<L> {
         Ok(Consoles {
             listener,
             consoles,
+            most_silence: MOST_SILENCE,
             state: Mutex::new(ConsolesState::new(alloc)),
             changed: Condvar::new(),
         })
+    }
+
+    /// Has consoles end that are silent within a line for so many milliseconds, in place of a minute.
+    pub fn limit_silence(&mut self, most: u64) {
+        self.most_silence = most;
     }
 
     /// One more console has a thread: the first the first time, and so on.

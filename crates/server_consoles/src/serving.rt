@@ -12,25 +12,28 @@ use console_text::ReplayFault;
 use server_operator::{Leaving, Operator, Terminal, operate};
 use std::io::BufReader;
 use std::net::Shutdown;
-use std::os::unix::net::UnixStream;
 use std::sync::ledger::Ledger;
 use std::sync::{Mutex, Wait};
 use std::time::Clock;
+
+const SLOW: &str = "a console is closed: nothing more of its line came for too long";
 
 /// Answers the lines of the connection, at the desk of the console. The answer is how they ended.
 fn answer<L: Ledger, P: Program, R: Wait + Clock>(
     rt: &R,
     operator: &Operator<'_, L, P>,
     console: &Console<L>,
-    stream: &UnixStream,
+    connection: &Connection,
+    most_silence: u64,
 ) -> Result<Leaving, ReplayFault> {
-    let Ok(reader) = BufReader::new(operator.alloc, ConsoleInput::new(stream)) else {
+    let input = ConsoleInput::new(rt, connection, most_silence);
+    let Ok(reader) = BufReader::new(operator.alloc, input) else {
         return Err(ReplayFault::Memory);
     };
     let desk = console.desk.lock(rt).take();
     let terminal = Mutex::new(Terminal {
         reader,
-        writer: stream,
+        writer: &connection.stream,
         desk,
     });
     let result = operate(rt, operator, &terminal);
@@ -49,8 +52,12 @@ fn serve<L: Ledger, P: Program, R: Wait + Clock>(
     operator: &Operator<'_, L, P>,
     console: &Console<L>,
     connection: &Connection,
+    most_silence: u64,
 ) {
-    let ended = answer(rt, operator, console, &connection.stream);
+    let ended = answer(rt, operator, console, connection, most_silence);
+    if connection.was_slow() {
+        operator.server.tell(rt, SLOW);
+    }
     if ended == Ok(Leaving::Watch) {
         follow(rt, operator, connection);
     }
@@ -87,7 +94,7 @@ pub fn serve_console<L: Ledger, P: Program, R: Wait + Clock>(
         release(rt, operator, console);
         match consoles.wait_connection(rt, slot) {
             Next::Connection(connection) => {
-                serve(rt, operator, console, &connection);
+                serve(rt, operator, console, &connection, consoles.most_silence);
                 consoles.give_back(rt, slot);
                 connection.shut(Shutdown::Both);
                 drop(connection);

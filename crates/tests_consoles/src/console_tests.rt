@@ -3,7 +3,7 @@
 use crate::checks::same;
 use crate::given_consoles::entries_of;
 use crate::scripts::Step::{Closes, Connect, IsClosed, Pause, Reads, Sends, SendsMore};
-use crate::scripts::{Script, Step};
+use crate::scripts::{A_MINUTE, Script, Step};
 
 /// Two consoles beside each other: `quit` ends one of them, and whoever sees that end can connect again, to its desk.
 const TWO: &[Step] = &[
@@ -141,6 +141,7 @@ fn consoles_are_answered(rt: HostRuntime) {
         let script = Script {
             path: "consoles-of-lines",
             count: 2,
+            most_silence: A_MINUTE,
             steps,
         };
         let found = entries_of(&rt, rt.alloc(), &script);

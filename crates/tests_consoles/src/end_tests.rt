@@ -3,8 +3,8 @@
 
 use crate::checks::{same, yes};
 use crate::given_consoles::entries_of;
-use crate::scripts::Step::{Connect, ConnectFree, Pause, Reads, Sends, SendsOften};
-use crate::scripts::{Script, Step};
+use crate::scripts::Step::{Connect, ConnectFree, IsClosed, Pause, Reads, Sends, SendsOften};
+use crate::scripts::{A_MINUTE, Script, Step};
 use std::alloc::Global;
 use std::fs::Files;
 use std::net::Net;
@@ -57,6 +57,7 @@ fn times<R: Wait + Threads + Clock + Files + Net + Abort + Sync>(
     let script = Script {
         path,
         count: 1,
+        most_silence: A_MINUTE,
         steps,
     };
     for _ in 0..TIMES {
@@ -95,11 +96,41 @@ fn a_console_that_nobody_reads_is_waited_for_two_seconds(rt: HostRuntime) {
     );
 }
 
+/// Whoever says nothing more within a line loses the console, and the line; whoever says nothing between two lines keeps it.
+const SILENT: &[Step] = &[
+    Connect(0),
+    Sends(0, b"bsc add 1"),
+    IsClosed(0),
+    Connect(1),
+    Sends(1, b"bsc add 1\n"),
+    Reads(1, b"ok 1\n"),
+    Pause,
+    Pause,
+    Pause,
+    Pause,
+    Pause,
+    Sends(1, b"bsc add 2\n"),
+    Reads(1, b"ok 2\n"),
+];
+
+#[test]
+fn a_half_line_ends_its_console(rt: HostRuntime) {
+    let script = Script {
+        path: "consoles-silent",
+        count: 1,
+        most_silence: 1_000,
+        steps: SILENT,
+    };
+    let found = entries_of(&rt, rt.alloc(), &script);
+    same(&rt, found, 2, "half a line is no entry");
+}
+
 #[test]
 fn a_console_that_nobody_reads_is_free_after_a_while(rt: HostRuntime) {
     let script = Script {
         path: "consoles-held",
         count: 1,
+        most_silence: A_MINUTE,
         steps: UNREAD_FOR_LONG,
     };
     let found = entries_of(&rt, rt.alloc(), &script);

@@ -180,7 +180,8 @@ fn desks_after<L: Ledger + Send + Sync, R: Wait + Threads + Clock + Files + Net 
     office: &Office<L>,
     script: &Script,
 ) -> Vec<Desk<L>> {
-    let consoles = opened(rt, alloc, office, script.path, script.count);
+    let mut consoles = opened(rt, alloc, office, script.path, script.count);
+    consoles.limit_silence(script.most_silence);
     let program = GivenProgram::new();
     runs(
         rt,

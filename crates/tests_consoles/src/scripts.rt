@@ -43,11 +43,16 @@ pub(crate) enum Step {
     Pause,
 }
 
+/// As many milliseconds as a console may usually be silent within a line.
+pub(crate) const A_MINUTE: u64 = 60_000;
+
 /// What connections do, at which socket file, and how many consoles it has.
 #[derive(Clone, Copy)]
 pub(crate) struct Script {
     pub(crate) path: &'static str,
     pub(crate) count: u32,
+    /// For how many milliseconds a console may be silent within a line.
+    pub(crate) most_silence: u64,
     pub(crate) steps: &'static [Step],
 }
 

@@ -3,7 +3,7 @@
 use crate::checks::same;
 use crate::given_consoles::entries_of;
 use crate::scripts::Step::{Closes, Connect, Pause, Reads, Sends};
-use crate::scripts::{Script, Step};
+use crate::scripts::{A_MINUTE, Script, Step};
 
 /// Two follow what two others enter, each at a desk of its own. What is entered before isn't handed on, and one that goes makes room for
 /// the next.
@@ -44,6 +44,7 @@ fn entries_are_handed_on(rt: HostRuntime) {
     let script = Script {
         path: "consoles-that-watch",
         count: 4,
+        most_silence: A_MINUTE,
         steps: FOLLOWED,
     };
     let found = entries_of(&rt, rt.alloc(), &script);
