@@ -1,13 +1,15 @@
 //! The page of a picture, with what has to stand in it written by hand.
 
 use crate::checks::{has, yes};
-use crate::pictures::{bare_picture, full_picture};
+use crate::pictures::{bare_picture, bare_warning, full_picture, picture_of_all};
+use crate::values::numbers;
 use base64::engine::general_purpose::STANDARD;
 use sha2::{Digest, Sha256};
 use status_figures::Picture;
 use status_pages::{POLICY, page};
 use std::alloc::Global;
 use std::process::Abort;
+use warning_book::Kind;
 
 /// What the page of the full picture has.
 const PARTS: &[(&str, &str)] = &[

@@ -232,7 +232,8 @@ const MOST_TURNS: u32 = 1_000;
 
 /// The console that followed last is shown the text.
 fn sees(rt: &impl Abort, alloc: Global, stage: &mut Stage, text: &str) {
-    let console = stage.consoles.last_mut().expect(rt, "a console");
+    let last = stage.consoles.len().saturating_sub(1);
+    let console = stage.consoles.get_mut(last).expect(rt, "a console");
     let mut shown = Vec::new(alloc);
     for _ in 0..MOST_TURNS {
         let mut octets = [0u8; 200];

@@ -110,7 +110,8 @@ fn a_system_log_gets_levels(rt: HostRuntime) {
 #[test]
 fn what_was_said_is_shown(rt: HostRuntime) {
     let alloc = rt.alloc();
-    let errors = Errors::new(alloc, Vec::new(alloc));
+    let writer: Vec<u8> = Vec::new(alloc);
+    let errors = Errors::new(alloc, writer);
     say_of_centre(&rt, alloc, &errors, "first");
     same(&rt, errors.said_count(&rt), 0, "it isn't said yet");
     say_of_centre(&rt, alloc, &errors, "second");
