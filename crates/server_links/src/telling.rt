@@ -31,7 +31,7 @@ struct Answered {
 }
 
 /// An order of this name for this message.
-fn answered(
+fn named_order(
     alloc: Global,
     kind: OrderKind,
     name: &str,
@@ -67,10 +67,10 @@ fn answered_by(alloc: Global, message: &Message) -> Result<Option<Answered>, All
     match message {
         Message::WriteFailure(m) => {
             let kind = write_kind(m.old);
-            answered(alloc, kind, "WRITE-REPLACE", m.message_id, m.serial)
+            named_order(alloc, kind, "WRITE-REPLACE", m.message_id, m.serial)
         }
         Message::KillFailure(m) => {
-            answered(alloc, OrderKind::Kill, "KILL", m.message_id, m.serial)
+            named_order(alloc, OrderKind::Kill, "KILL", m.message_id, m.serial)
         }
         Message::ErrorIndication(m) => answered_error(alloc, m),
         _ => Ok(None),
@@ -95,13 +95,10 @@ fn all_held_back(
     kind: OrderKind,
     replies: &[Reply],
 ) -> Result<Vec<RefusedCell>, AllocError> {
-    let mut refused = Vec::new(alloc);
-    for reply in replies {
-        if let Some(cell) = held_back(kind, reply) {
-            refused.push(cell)?;
-        }
-    }
-    Ok(refused)
+    replies
+        .iter()
+        .filter_map(|reply| held_back(kind, reply))
+        .collect(alloc)
 }
 
 /// Whether an indication is about emergency warnings (3GPP TS 48.049, 8.2.24).
