@@ -18,8 +18,8 @@ forms =
     ∷ codes "widen WARNING AREA" ∷ codes "narrow WARNING AREA" ∷ codes "stop WARNING" ∷ codes "forget WARNING"
     ∷ codes "warning WARNING" ∷ codes "failed WARNING" ∷ codes "board WARNING" ∷ codes "board WARNING AREA"
     ∷ codes "wish BSC WARNING" ∷ codes "wish BSC WARNING LAC CI"
-    ∷ codes "retry BSC" ∷ codes "cut BSC" ∷ codes "cells BSC" ∷ codes "pending BSC" ∷ codes "table BSC"
-    ∷ codes "bscs" ∷ codes "links" ∷ codes "areas" ∷ codes "warnings" ∷ codes "peers" ∷ codes "status" ∷ codes "help"
+    ∷ codes "retry BSC" ∷ codes "cut BSC" ∷ codes "close CONSOLE" ∷ codes "cells BSC" ∷ codes "pending BSC" ∷ codes "table BSC"
+    ∷ codes "bscs" ∷ codes "links" ∷ codes "areas" ∷ codes "warnings" ∷ codes "peers" ∷ codes "consoles" ∷ codes "status" ∷ codes "help"
     ∷ codes "checkpoint" ∷ codes "rebuild" ∷ codes "watch" ∷ codes "quit" ∷ codes "shutdown" ∷ []
 
 -- a word of a form is a name if it begins with a capital letter
@@ -33,7 +33,8 @@ is_octet name = bytes_eq name (codes "DCS") || (bytes_eq name (codes "INDICATOR"
 
 abbrev pub is_two_octets : List ℕ → Bool
 is_two_octets name =
-    bytes_eq name (codes "LAC") || (bytes_eq name (codes "CI") || (bytes_eq name (codes "IDENTIFIER") || (bytes_eq name (codes "PERIOD") || bytes_eq name (codes "WARNING-TYPE"))))
+    bytes_eq name (codes "LAC") || (bytes_eq name (codes "CI") || (bytes_eq name (codes "CONSOLE")
+    || (bytes_eq name (codes "IDENTIFIER") || (bytes_eq name (codes "PERIOD") || bytes_eq name (codes "WARNING-TYPE")))))
 
 -- between which numbers a word of that name lies; other names are of words that are no numbers
 abbrev pub bounds_of : List ℕ → Option Bounds

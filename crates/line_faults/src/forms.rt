@@ -14,7 +14,7 @@ use std::alloc::{AllocError, Global};
 
 /// Each form, as the page of formats has it. A word of small letters is typed as it stands, one of capital letters is the name of what
 /// is typed there. Of those that begin alike the shorter ones stand first.
-const FORMS: [&str; 45] = [
+const FORMS: [&str; 47] = [
     "bsc add BSC",
     "bsc remove BSC",
     "cell add LAC CI BSC",
@@ -45,6 +45,7 @@ const FORMS: [&str; 45] = [
     "wish BSC WARNING LAC CI",
     "retry BSC",
     "cut BSC",
+    "close CONSOLE",
     "cells BSC",
     "pending BSC",
     "table BSC",
@@ -53,6 +54,7 @@ const FORMS: [&str; 45] = [
     "areas",
     "warnings",
     "peers",
+    "consoles",
     "status",
     "help",
     "checkpoint",
@@ -72,7 +74,7 @@ fn push_form(alloc: Global, forms: &mut Vec<Name>, form: &str) -> Result<(), All
 fn copied(alloc: Global, forms: &[&str]) -> Result<Names, AllocError>
     ensures { IfOk result (λ names. names ≡ map (λ form. form.now) forms.now) }
 {
-    let mut names = Vec::with_capacity(alloc, 45)?;
+    let mut names = Vec::with_capacity(alloc, 47)?;
     for form in forms {
         push_form(alloc, &mut names, form)?;
     }
@@ -84,7 +86,7 @@ fn copied(alloc: Global, forms: &[&str]) -> Result<Names, AllocError>
 pub(crate) fn forms(alloc: Global) -> Result<Names, AllocError>
     ensures { IfOk result (λ names. names ≡ forms) }
 {
-    let all: [&str; 45] = FORMS;
+    let all: [&str; 47] = FORMS;
     copied(alloc, all.as_slice())
 }
 
@@ -111,6 +113,7 @@ fn is_two_octets(name: &[u8]) -> bool
 {
     is_word(name, b"LAC")
         || is_word(name, b"CI")
+        || is_word(name, b"CONSOLE")
         || is_word(name, b"IDENTIFIER")
         || is_word(name, b"PERIOD")
         || is_word(name, b"WARNING-TYPE")

@@ -35,6 +35,7 @@ fn serve_at<L: Ledger, E: Write + Drop, R: PeersSource + Wait + Clock>(
         server: &RunningServer {
             peers_source: rt,
             shared,
+            consoles: Some(consoles),
         },
         may_watch: true,
     };
@@ -53,6 +54,7 @@ fn accept_at<L: Ledger, E: Write + Drop, R: PeersSource + Wait + Clock>(
         server: &RunningServer {
             peers_source: rt,
             shared,
+            consoles: Some(consoles),
         },
         may_watch: true,
     };
@@ -106,7 +108,7 @@ fn run_terminal<
 >(
     rt: &R,
     shared: &Shared<L, E>,
-    has_consoles: bool,
+    consoles: Option<&Consoles<L>>,
     terminal: &Mutex<Terminal<L, I, W>>,
 ) -> Result<(), ReplayFault> {
     let operator = Operator {
@@ -115,11 +117,12 @@ fn run_terminal<
         server: &RunningServer {
             peers_source: rt,
             shared,
+            consoles,
         },
         may_watch: false,
     };
     let ended = operate(rt, &operator, terminal);
-    if !has_consoles {
+    if consoles.is_none() {
         tell_ended(rt, shared, ended);
         return match ended {
             Ok(_) => Ok(()),
@@ -161,7 +164,7 @@ pub(crate) fn run_operators<
     terminal: &'x Mutex<Terminal<L, I, W>>,
 ) -> Result<(), ReplayFault> {
     let Some(consoles) = consoles else {
-        return run_terminal(rt, shared, false, terminal);
+        return run_terminal(rt, shared, None, terminal);
     };
     thread::scope(thread::scope_env(), rt, move |scope| {
         for slot in 0..consoles.consoles.len() {
@@ -179,7 +182,7 @@ pub(crate) fn run_operators<
             let level = Level::Warning;
             say_of_centre_at(rt, shared.alloc, &shared.errors, level, UNTAKEN);
         }
-        let result = run_terminal(rt, shared, true, terminal);
+        let result = run_terminal(rt, shared, Some(consoles), terminal);
         close_consoles(rt, shared, consoles);
         result
     })

@@ -115,7 +115,9 @@ fn tell_peers<R: Wait + Clock, E: Write + Drop>(
         return;
     };
     let count = peers.count();
-    if let Ok(text) = format!(in alloc; "peers: {count} blocks of addresses were read from {path}") {
+    if let Ok(text) = format!(in alloc;
+        "peers: {count} blocks of addresses were read from {path}"
+    ) {
         say_of_centre(rt, alloc, errors, text);
     }
 }

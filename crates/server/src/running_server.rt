@@ -5,7 +5,7 @@ use cell_register::BscId;
 use centre_events::refusal::Refusal;
 use centre_past::lists::WarningSheet;
 use journal_keeper::KeptUpTo;
-use server_consoles::Program;
+use server_consoles::{Consoles, Program};
 use server_errors::{Level, Said, say_of_centre_at};
 use server_links::{Renamed, Shared, second_of};
 use server_operator::{Air, Server};
@@ -17,6 +17,9 @@ use std::sync::Wait;
 use std::sync::ledger::Ledger;
 use std::time::Clock;
 use warning_book::WarningId;
+
+/// What an operator is told who asks for consoles where there are none.
+const NO_CONSOLES: &str = "no consoles: there is no --console\n";
 
 /// What an operator is told of another list of peers.
 fn renamed_text(alloc: Global, renamed: Renamed) -> Result<String, AllocError> {
@@ -35,6 +38,8 @@ pub(crate) struct RunningServer<'a, L: Ledger, E: Drop, F> {
     /// Where the list of peers is read.
     pub(crate) peers_source: &'a F,
     pub(crate) shared: &'a Shared<L, E>,
+    /// The consoles, where there are any.
+    pub(crate) consoles: Option<&'a Consoles<L>>,
 }
 
 impl<'a, L: Ledger, E: Write + Drop, F: PeersSource> RunningServer<'a, L, E, F> {
@@ -126,6 +131,26 @@ impl<'a, L: Ledger, E: Write + Drop, F: PeersSource> Server for RunningServer<'a
                 drop(why);
                 text
             }
+        }
+    }
+
+    fn consoles<R: Wait + Clock>(&self, rt: &R, alloc: Global) -> Result<String, AllocError> {
+        match self.consoles {
+            Some(consoles) => consoles.list(rt, alloc),
+            None => String::from_str(alloc, NO_CONSOLES),
+        }
+    }
+
+    fn close_console<R: Wait>(
+        &self,
+        rt: &R,
+        alloc: Global,
+        number: u16,
+    ) -> Result<String, AllocError> {
+        match self.consoles {
+            Some(consoles) if consoles.end(rt, number) => format!(in alloc; "closed {number}\n"),
+            Some(_) => format!(in alloc; "no console {number} is open\n"),
+            None => String::from_str(alloc, NO_CONSOLES),
         }
     }
 

@@ -1,3 +1,4 @@
+pub mod ConsoleLists
 pub mod HalfLines
 pub mod LastWords
 pub mod Slots

@@ -1,6 +1,7 @@
 //! The thread that takes the connections of consoles.
 
 use crate::connection::Connection;
+use crate::console_input::second_of;
 use crate::consoles::Consoles;
 use crate::farewell::part;
 use crate::program::Program;
@@ -33,16 +34,17 @@ fn tell_untaken<L: Ledger, P: Program, R: Wait + Clock>(
 }
 
 /// Gives the connection a console. Where none is free, it is told so and closed.
-fn offer<L: Ledger, P: Program, R: Wait>(
+fn offer<L: Ledger, P: Program, R: Wait + Clock>(
     rt: &R,
     operator: &Operator<'_, L, P>,
     consoles: &Consoles<L>,
     stream: UnixStream,
 ) {
-    let Ok(connection) = Connection::new(stream) else {
+    let alloc = operator.alloc;
+    let Ok(connection) = Connection::new(alloc, stream, second_of(rt)) else {
         return;
     };
-    let Ok(connection) = Arc::new(operator.alloc, connection) else {
+    let Ok(connection) = Arc::new(alloc, connection) else {
         return;
     };
     if let Err(connection) = consoles.offer(rt, connection) {

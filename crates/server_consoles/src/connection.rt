@@ -1,10 +1,13 @@
 //! A connection that is a console.
 
+use crate::asked::Asked;
 use crate::ready::is_over;
+use std::alloc::Global;
 use std::io;
 use std::net::Shutdown;
 use std::os::fd::AsRawFd;
 use std::os::unix::net::UnixStream;
+use std::sync::Mutex;
 use std::sync::atomic::{AtomicBool, Ordering};
 use std::time::Duration;
 
@@ -24,11 +27,15 @@ pub(crate) struct Connection {
     is_over: AtomicBool,
     /// It was silent within a line for too long.
     is_slow: AtomicBool,
+    /// When it connected, in seconds after 1970-01-01T00:00:00Z.
+    pub(crate) since: u64,
+    /// What it was last asked.
+    pub(crate) asked: Mutex<Asked>,
 }
 
 impl Connection {
     /// A write to the connection fails where it has waited for too long; a read answers after a second that nothing has come.
-    pub(crate) fn new(stream: UnixStream) -> io::Result<Connection> {
+    pub(crate) fn new(alloc: Global, stream: UnixStream, since: u64) -> io::Result<Connection> {
         stream.set_write_timeout(Some(Duration::from_secs(MOST_WAIT)))?;
         stream.set_read_timeout(Some(Duration::from_secs(TURN)))?;
         Ok(Connection {
@@ -36,6 +43,8 @@ impl Connection {
             is_watching: AtomicBool::new(false),
             is_over: AtomicBool::new(false),
             is_slow: AtomicBool::new(false),
+            since,
+            asked: Mutex::new(Asked::new(alloc)),
         })
     }
 
@@ -57,6 +66,11 @@ impl Connection {
     /// It follows the journal from now on.
     pub(crate) fn watch(&self) {
         self.is_watching.store(true, Ordering::SeqCst);
+    }
+
+    /// Whether it follows the journal.
+    pub(crate) fn follows(&self) -> bool {
+        self.is_watching.load(Ordering::SeqCst)
     }
 
     /// Whether it is seen only now that it follows the journal no more.

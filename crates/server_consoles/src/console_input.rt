@@ -4,7 +4,8 @@ use crate::connection::Connection;
 use crate::half_line::HalfLine;
 use std::io;
 use std::io::{ErrorKind, Read};
-use std::time::Clock;
+use std::sync::Wait;
+use std::time::{Clock, SystemTime};
 
 /// Reads from a connection. A line counts once its end has come: where the connection ends inside of one, the read fails, and so it does
 /// where nothing more of one comes for too long. Where nothing comes and no line has begun, a read answers `WouldBlock` each second.
@@ -15,6 +16,17 @@ pub(crate) struct ConsoleInput<'a, R> {
     half: HalfLine,
 }
 
+/// The time, in seconds after 1970-01-01T00:00:00Z; 0 where it can't be read.
+pub(crate) fn second_of<R: Clock>(rt: &R) -> u64 {
+    let Ok(now) = SystemTime::now(rt) else {
+        return 0;
+    };
+    match now.duration_since(SystemTime::UNIX_EPOCH) {
+        Ok(since) => since.as_secs(),
+        Err(_) => 0,
+    }
+}
+
 /// The time, in milliseconds of a clock that goes on; 0 where it can't be read.
 fn now_of<R: Clock>(rt: &R) -> u64 {
     match rt.monotonic() {
@@ -23,7 +35,7 @@ fn now_of<R: Clock>(rt: &R) -> u64 {
     }
 }
 
-impl<'a, R: Clock> ConsoleInput<'a, R> {
+impl<'a, R: Wait + Clock> ConsoleInput<'a, R> {
     pub(crate) fn new(
         rt: &'a R,
         connection: &'a Connection,
@@ -41,6 +53,8 @@ impl<'a, R: Clock> ConsoleInput<'a, R> {
         match octets.last() {
             Some(octet) => {
                 self.half.heard(now_of(self.rt), *octet == b'\n');
+                let mut asked = self.connection.asked.lock(self.rt);
+                let _ = asked.hear(octets, second_of(self.rt));
                 Ok(())
             }
             None if self.half.has_begun() => Err(io::Error::from(ErrorKind::UnexpectedEof)),
@@ -58,7 +72,7 @@ impl<'a, R: Clock> ConsoleInput<'a, R> {
     }
 }
 
-impl<R: Clock> Read for ConsoleInput<'_, R> {
+impl<R: Wait + Clock> Read for ConsoleInput<'_, R> {
     fn read(&mut self, buf: &mut [u8]) -> io::Result<usize> {
         let mut stream = &self.connection.stream;
         match stream.read(buf) {

@@ -2,6 +2,7 @@
 
 use crate::connection::Connection;
 use crate::console::Console;
+use crate::console_list::list_text;
 use crate::consoles_state::ConsolesState;
 use crate::half_line::MOST_SILENCE;
 use crate::next::Next;
@@ -106,6 +107,16 @@ impl<L: Ledger> Consoles<L> {
     pub(crate) fn give_back<R: Wait>(&self, rt: &R, slot: usize) {
         self.state.lock(rt).slots.give_back(slot);
         self.changed.notify_all();
+    }
+
+    /// A line for each console that is open, and their number.
+    pub fn list<R: Wait>(&self, rt: &R, alloc: Global) -> Result<String, AllocError> {
+        list_text(rt, alloc, &self.state.lock(rt).slots)
+    }
+
+    /// Ends the console of that number, from 1 on. `false` where none is open there.
+    pub fn end<R: Wait>(&self, rt: &R, number: u16) -> bool {
+        self.state.lock(rt).end(number)
     }
 
     /// Whether one that follows the journal is seen only now to have ended.

@@ -48,6 +48,20 @@ impl ConsolesState {
         begun
     }
 
+    /// Shuts the connection that holds the slot of that number, from 1 on. `false` where none does.
+    pub(crate) fn end(&self, number: u16) -> bool {
+        let Some(slot) = usize::from(number).checked_sub(1) else {
+            return false;
+        };
+        match self.slots.holder(slot) {
+            Some(connection) => {
+                connection.shut(Shutdown::Both);
+                true
+            }
+            None => false,
+        }
+    }
+
     /// Shuts all connections so.
     pub(crate) fn shut(&self, how: Shutdown) {
         for place in self.slots.as_slice() {

@@ -7,9 +7,11 @@
 #![tactic(auto)]
 
 mod accepting;
+mod asked;
 mod connection;
 mod console;
 mod console_input;
+mod console_list;
 mod consoles;
 mod consoles_state;
 mod entry_text;

@@ -2,12 +2,12 @@
 use Rattle.std.specs.Prelude.{ℕ, List, [], ◌∷◌, Option, Some, None, bytes_eq, codes, if◌then◌else◌}
 use Rattle.std.specs.Option.{option_map}
 use Rattle.common.specs.declared.cell.Cell.{Cell}
-use Rattle.console_text.specs.Grammar.{bsc_of, cell_of, if_some, line_of, warning_of}
+use Rattle.console_text.specs.Grammar.{bsc_of, cell_of, if_some, line_of, two_octets_of, warning_of}
 use Rattle.server_lines.specs.TextGrammar.{text_line_of}
 use Rattle.server_lines.specs.declared.list_line.ListLine.TheVariants as list
 use Rattle.server_lines.specs.declared.server_line.ServerLine.{ServerLine}
 use Rattle.server_lines.specs.declared.text_line.TextLine.{TextLine}
-use Rattle.server_lines.specs.declared.server_line.ServerLine.TheVariants.{Quit, Shutdown, Watch, CutLink, Wish, Peers, Status, Help, List as ListOf, Text, Centre}
+use Rattle.server_lines.specs.declared.server_line.ServerLine.TheVariants.{Quit, Shutdown, Watch, CutLink, Wish, Peers, Consoles, CloseConsole, Status, Help, List as ListOf, Text, Centre}
 
 -- B and W of `wish`, where that cell is given or none
 abbrev pub wish : List ℕ → List ℕ → Option Cell → Option ServerLine
@@ -28,6 +28,7 @@ own_line_of (verb ∷ []) =
     else if bytes_eq verb (codes "areas") then Some (ListOf list.Areas)
     else if bytes_eq verb (codes "warnings") then Some (ListOf list.Warnings)
     else if bytes_eq verb (codes "peers") then Some Peers
+    else if bytes_eq verb (codes "consoles") then Some Consoles
     else if bytes_eq verb (codes "status") then Some Status
     else if bytes_eq verb (codes "help") then Some Help
     else None
@@ -37,6 +38,7 @@ own_line_of (verb ∷ x ∷ []) =
     else if bytes_eq verb (codes "area") then Some (ListOf (list.Area x))
     else if bytes_eq verb (codes "warning") then option_map (λ w. ListOf (list.Warning w)) (warning_of x)
     else if bytes_eq verb (codes "failed") then option_map (λ w. ListOf (list.Failed w)) (warning_of x)
+    else if bytes_eq verb (codes "close") then option_map CloseConsole (two_octets_of x)
     else None
 own_line_of (verb ∷ x ∷ y ∷ []) = if bytes_eq verb (codes "wish") then wish x y None else None
 own_line_of (verb ∷ x ∷ y ∷ z ∷ t ∷ []) = if bytes_eq verb (codes "wish") then wish_after x y z t else None

@@ -1,17 +1,17 @@
 //! The lines that the operator of a server may write, by their words.
 
 ghost use Rattle.std.specs.Prelude.{◌≡◌, [], ◌∷◌, IfOk, option_map};
-ghost use Rattle.console_text.specs.Grammar.{bsc_of, line_of, warning_of};
+ghost use Rattle.console_text.specs.Grammar.{bsc_of, line_of, two_octets_of, warning_of};
 ghost use Rattle.server_lines.specs.ServerGrammar.{or_centre, own_line_of, server_line_of, wish, wish_after};
 ghost use Rattle.server_lines.specs.declared.list_line.ListLine.TheVariants as list;
-ghost use Rattle.server_lines.specs.declared.server_line.ServerLine.TheVariants.{Centre, CutLink, List as ListOf};
+ghost use Rattle.server_lines.specs.declared.server_line.ServerLine.TheVariants.{Centre, CloseConsole, CutLink, List as ListOf};
 
 use crate::list_line::ListLine;
 use crate::server_line::ServerLine;
 use crate::text_grammar::read_text_line;
 use common::{Cell, Name};
 use console_text::grammar;
-use console_text::grammar::{read_bsc, read_cell, read_warning};
+use console_text::grammar::{read_bsc, read_cell, read_two_octets, read_warning};
 use console_text::word::Word;
 use console_text::words::is_word;
 use std::alloc::{AllocError, Global};
@@ -69,7 +69,7 @@ fn read_own(alloc: Global, words: &[Word<'_>]) -> Result<Option<ServerLine>, All
     }
 }
 
-/// `quit`, `shutdown`, `watch`, `bscs`, `links`, `areas`, `warnings`, `peers`, `status`, `help`
+/// `quit`, `shutdown`, `watch`, `bscs`, `links`, `areas`, `warnings`, `peers`, `consoles`, `status`, `help`
 fn read_one(verb: &[u8]) -> Option<ServerLine>
     ensures { result ≡ own_line_of (verb.now ∷ []) }
 {
@@ -89,6 +89,8 @@ fn read_one(verb: &[u8]) -> Option<ServerLine>
         Some(ServerLine::List(ListLine::Warnings))
     } else if is_word(verb, b"peers") {
         Some(ServerLine::Peers)
+    } else if is_word(verb, b"consoles") {
+        Some(ServerLine::Consoles)
     } else if is_word(verb, b"status") {
         Some(ServerLine::Status)
     } else if is_word(verb, b"help") {
@@ -98,7 +100,7 @@ fn read_one(verb: &[u8]) -> Option<ServerLine>
     }
 }
 
-/// `cut B`, `cells B`, `area N`, `warning W`, `failed W`
+/// `cut B`, `cells B`, `area N`, `warning W`, `failed W`, `close N`
 fn read_two(alloc: Global, verb: &[u8], x: &[u8]) -> Result<Option<ServerLine>, AllocError>
     ensures { IfOk result (λ line. line ≡ own_line_of (verb.now ∷ x.now ∷ [])) }
 {
@@ -112,6 +114,8 @@ fn read_two(alloc: Global, verb: &[u8], x: &[u8]) -> Result<Option<ServerLine>, 
         Ok(read_warning_sheet(x))
     } else if is_word(verb, b"failed") {
         Ok(read_failed(x))
+    } else if is_word(verb, b"close") {
+        Ok(read_close(x))
     } else {
         Ok(None)
     }
@@ -151,6 +155,13 @@ fn read_failed(x: &[u8]) -> Option<ServerLine>
     ensures { result ≡ option_map (λ w. ListOf (list.Failed w)) (warning_of x.now) }
 {
     Some(ServerLine::List(ListLine::Failed(read_warning(x)?)))
+}
+
+/// N of `close N`.
+fn read_close(x: &[u8]) -> Option<ServerLine>
+    ensures { result ≡ option_map CloseConsole (two_octets_of x.now) }
+{
+    Some(ServerLine::CloseConsole(read_two_octets(x)?))
 }
 
 /// B and W of `wish`.

@@ -44,6 +44,8 @@ area cut N L, area cut N L C
 retry B                         orders again what BSC B has refused
 cut B                           ends the link of BSC B
 peers                           reads the file of --peers again
+consoles                        the consoles that are open, with what each was last asked
+close N                         ends console N
 checkpoint                      folds the journal
 rebuild                         makes a stale centre whole
 watch                           at the socket file: shows each entry as it comes

@@ -22,6 +22,10 @@ pub enum ServerLine {
     Wish(BscId, WarningId, Option<Cell>),
     /// `peers`
     Peers,
+    /// `consoles`
+    Consoles,
+    /// `close N`: the console of that number, from 1 on
+    CloseConsole(u16),
     /// `status`
     Status,
     /// `help`

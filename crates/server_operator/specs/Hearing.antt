@@ -91,6 +91,8 @@ pub record IsBadAnswer (octets text : List ℕ) : Type 0 where
 abbrev pub IsHeardAs : DeskState → ServerLine → DeskState → Heard → Type 0
 IsHeardAs before (line.Wish b w after_cell) after h = IsAnswered (IsWishAnswer b w after_cell) h × (after ≡ before)
 IsHeardAs before line.Peers after h = IsAnswered (λ text. Unit {0}) h × (after ≡ before)
+IsHeardAs before line.Consoles after h = IsAnswered (λ text. Unit {0}) h × (after ≡ before)
+IsHeardAs before (line.CloseConsole n) after h = IsAnswered (λ text. Unit {0}) h × (after ≡ before)
 IsHeardAs before line.Status after h = IsAnswered (IsStatusAnswer before) h × (after ≡ before)
 IsHeardAs before line.Help after h = IsAnswered (λ text. Unit {0}) h × (after ≡ before)
 IsHeardAs before (line.List l) after h = IsListed before l h × (after ≡ before)

@@ -147,6 +147,13 @@ fn hear_request<L: Ledger, S: Server, R: Wait + Clock>(
             Ok(Heard::Answered(wish(rt, operator, b, warning, after)?))
         }
         ServerLine::Peers => Ok(Heard::Answered(operator.server.reread_peers(rt)?)),
+        ServerLine::Consoles => {
+            Ok(Heard::Answered(operator.server.consoles(rt, operator.alloc)?))
+        }
+        ServerLine::CloseConsole(number) => {
+            let text = operator.server.close_console(rt, operator.alloc, number)?;
+            Ok(Heard::Answered(text))
+        }
         ServerLine::Status => Ok(Heard::Answered(status(rt, operator, desk)?)),
         ServerLine::Help => Ok(Heard::Answered(help_text(operator.alloc)?)),
         ServerLine::Text(line) => Ok(Heard::Answered(say(rt, operator, desk, line)?)),

@@ -56,6 +56,21 @@ pub trait Server {
     /// Reads the list of peers again. The answer is what it says to the operator, with the end of its line.
     fn reread_peers<R: Wait + Clock>(&self, rt: &R) -> Result<String, AllocError>;
 
+    /// The consoles that are open, as lines for the operator.
+    fn consoles<R: Wait + Clock>(&self, _rt: &R, alloc: Global) -> Result<String, AllocError> {
+        String::from_str(alloc, "no consoles: there is no --console\n")
+    }
+
+    /// Ends the console of that number, from 1 on. The answer is what it says to the operator, with the end of its line.
+    fn close_console<R: Wait>(
+        &self,
+        _rt: &R,
+        alloc: Global,
+        _number: u16,
+    ) -> Result<String, AllocError> {
+        String::from_str(alloc, "no consoles: there is no --console\n")
+    }
+
     /// When a RESET went out to the BSC that isn't answered, in seconds after 1970-01-01T00:00:00Z; `None` where none is out.
     fn reset_since<R: Wait>(&self, rt: &R, b: BscId) -> Option<u64>;
 

@@ -110,3 +110,46 @@ const FOLLOWS: Play = Play {
     answers: Wanted::Bounds("settled ", "\n"),
     ..USUAL
 };
+
+/// A console that is open is listed, and ended by another.
+#[test]
+fn consoles_are_listed_and_ended(rt: HostRuntime) {
+    played(&rt, rt.alloc(), &LISTED);
+}
+
+const LISTED: Play = Play {
+    words: &["--console", "consoles-that-are-listed"],
+    acts: &[
+        Act::Types("bsc add 1\n", "ok 1\n"),
+        Act::Types("consoles\n", "consoles 0\n"),
+        Act::Follows("consoles-that-are-listed"),
+        Act::Types("consoles\n", "console 1 since 2"),
+        Act::Types("", "consoles 1\n"),
+        Act::Asks(
+            "consoles-that-are-listed",
+            "close 9\n",
+            "no console 9 is open\n",
+        ),
+        Act::Asks("consoles-that-are-listed", "close 1\n", "closed 1\n"),
+        Act::Repeats("consoles\n", "consoles 0\n"),
+        Act::Lines("quit\n", 0),
+    ],
+    answers: Wanted::Any,
+    ..USUAL
+};
+
+/// Without a socket file there is none to list.
+#[test]
+fn no_console_is_listed_without_a_file(rt: HostRuntime) {
+    played(&rt, rt.alloc(), &UNLISTED);
+}
+
+const UNLISTED: Play = Play {
+    acts: &[
+        Act::Types("consoles\n", "no consoles: there is no --console\n"),
+        Act::Types("close 1\n", "no consoles: there is no --console\n"),
+        Act::Lines("quit\n", 0),
+    ],
+    answers: Wanted::Is("settled 0\n"),
+    ..USUAL
+};
