@@ -7,6 +7,7 @@ pub mod Places
 pub mod Cover
 pub mod Warnings
 pub mod Links
+pub mod LastPlaces
 pub mod Lookups
 pub mod InFlight
 pub mod Effects

@@ -1,6 +1,7 @@
--- Lists of a reply in which the entry of a cell can be found by halves: each identification is that of a single cell, and
--- they stand in ascending order of these cells.
-use Rattle.std.specs.Prelude.{◌≡◌, Bool, true, false, List, Option, Some, None}
+-- Lists of a reply in which the entry of a cell can be found by halves, since each identification is that of a single cell, and
+-- they stand in ascending order of these cells; and the places of the entries of other lists.
+use Rattle.std.specs.Prelude.{◌≡◌, ℕ, Bool, true, false, List, Option, Some, None, reverse}
+use Rattle.cbsp_ie.specs.CellId.{names}
 use Rattle.cbsp_ie.specs.Counts as counts
 use Rattle.cbsp_ie.specs.Identifications.{Identifications}
 use Rattle.cbsp_ie.specs.declared.cell_id.CellId.{CellId}
@@ -12,8 +13,11 @@ use Rattle.cbsp_messages.specs.declared.message.Message.TheVariants as message
 use Rattle.common.specs.Cell.{cell_lt}
 use Rattle.common.specs.Order.{is_ascending}
 use Rattle.common.specs.declared.cell.Cell.{Cell}
-use Rattle.centre_events.specs.Counts.{numbers_of}
-use Rattle.centre_events.specs.declared.in_order.InOrder.{InOrder}
+use Rattle.centre_events.specs.Counts.{gives_number, numbers_of}
+use Rattle.centre_events.specs.LastPlaces.{IsPlaced}
+use Rattle.centre_events.specs.declared.count_places.CountPlaces.{CountPlaces}
+use Rattle.centre_events.specs.declared.last_places.LastPlaces.{LastPlaces}
+use Rattle.centre_events.specs.declared.reply_places.ReplyPlaces.{ReplyPlaces}
 
 -- the identification is that of a single cell, which comes before the given one
 abbrev pub is_before : CellId → Cell → Bool
@@ -49,19 +53,33 @@ ids_of (message.WriteFailure m) = m.cells
 ids_of (message.KillFailure m) = m.cells
 ids_of other = None
 
--- a list of each kind, where there is one, is ordered
-abbrev pub are_failures_ordered : Option (List FailEntry) → Bool
-are_failures_ordered None = true
-are_failures_ordered (Some failures) = are_ordered (λ (e : FailEntry). e.id) failures
+-- a list of each kind has these places of its entries: the greatest is that of the first failure that names the cell, and of the last
+-- identification or number. Without places it is ordered
+abbrev pub AreFailuresPlaced : List ℕ → List FailEntry → Option LastPlaces → Type 0
+AreFailuresPlaced network failures None = are_ordered (λ (e : FailEntry). e.id) failures ≡ true
+AreFailuresPlaced network failures (Some places) = IsPlaced (λ c (e : FailEntry). names network e.id c) failures places
 
-abbrev pub are_ids_ordered : Option Identifications → Bool
-are_ids_ordered None = true
-are_ids_ordered (Some list) = are_ordered (λ (i : CellId). i) list.ids
+abbrev pub AreIdsPlaced : List ℕ → List CellId → Option LastPlaces → Type 0
+AreIdsPlaced network ids None = are_ordered (λ (i : CellId). i) ids ≡ true
+AreIdsPlaced network ids (Some places) = IsPlaced (λ c (i : CellId). names network i c) (reverse ids) places
 
-abbrev pub are_counts_ordered : Option counts.Numbers → Bool
-are_counts_ordered None = true
-are_counts_ordered (Some list) = are_ordered (λ (e : CountEntry). e.id) list.entries
+abbrev pub AreCountsPlaced : List ℕ → List CountEntry → Option CountPlaces → Type 0
+AreCountsPlaced network entries None = are_ordered (λ (e : CountEntry). e.id) entries ≡ true
+AreCountsPlaced network entries (Some places) = IsPlaced (λ c (e : CountEntry). names network e.id c) (reverse entries) places.entries × IsPlaced (gives_number network) (reverse entries) places.numbers
 
--- those that are said to be ordered are
-abbrev pub IsOrderOf : Message → InOrder → Type 0
-IsOrderOf m o = (o.failures ≡ true → are_failures_ordered (failures_of m) ≡ true) × (o.cells ≡ true → are_ids_ordered (ids_of m) ≡ true) × (o.counts ≡ true → are_counts_ordered (numbers_of m) ≡ true)
+-- the same, where there is such a list
+abbrev pub AreFailuresPlacedIn : List ℕ → Option (List FailEntry) → Option LastPlaces → Type 0
+AreFailuresPlacedIn network None places = Unit {0}
+AreFailuresPlacedIn network (Some failures) places = AreFailuresPlaced network failures places
+
+abbrev pub AreIdsPlacedIn : List ℕ → Option Identifications → Option LastPlaces → Type 0
+AreIdsPlacedIn network None places = Unit {0}
+AreIdsPlacedIn network (Some list) places = AreIdsPlaced network list.ids places
+
+abbrev pub AreCountsPlacedIn : List ℕ → Option counts.Numbers → Option CountPlaces → Type 0
+AreCountsPlacedIn network None places = Unit {0}
+AreCountsPlacedIn network (Some list) places = AreCountsPlaced network list.entries places
+
+-- the places are those of the reply's lists
+abbrev pub ArePlacesOf : List ℕ → Message → ReplyPlaces → Type 0
+ArePlacesOf network m places = AreFailuresPlacedIn network (failures_of m) places.failures × AreIdsPlacedIn network (ids_of m) places.cells × AreCountsPlacedIn network (numbers_of m) places.counts

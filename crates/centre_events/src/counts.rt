@@ -4,12 +4,13 @@
 ghost use Rattle.std.specs.Prelude.{◌≡◌, true};
 ghost use Rattle.std.specs.Option.{option_copied};
 ghost use Rattle.centre_events.specs.Counts.{number_in, number_of, edit_count};
-ghost use Rattle.centre_events.specs.Lookups.{are_counts_ordered, IsOrderOf};
+ghost use Rattle.centre_events.specs.Lookups.{AreCountsPlacedIn, ArePlacesOf};
 
 use crate::answer::Answer;
+use crate::count_places::CountPlaces;
 use crate::effects::{is_given, is_of_warning};
-use crate::in_order::InOrder;
 use crate::lookups::{number_among, numbers_of};
+use crate::reply_places::ReplyPlaces;
 use cbsp_ie::Counts;
 use cbsp_messages::Message;
 use cell_register::BscId;
@@ -19,30 +20,35 @@ use serials::Serial;
 use warning_book::Warning;
 
 /// The last number that the list gives of the cell, where there is such a list.
-fn number_in(network: [u8; 3], list: Option<&Counts>, is_ordered: bool, c: Cell) -> Option<u16>
-    requires { is_ordered ≡ true → are_counts_ordered (option_copied list) ≡ true }
+fn number_in(
+    network: [u8; 3],
+    list: Option<&Counts>,
+    places: Option<&CountPlaces>,
+    c: Cell,
+) -> Option<u16>
+    requires { AreCountsPlacedIn network (option_copied list) (option_copied places) }
     ensures { result ≡ number_in network (option_copied list.entry) c }
 {
     match list {
-        Some(list) => number_among(network, list.entries(), is_ordered, c),
+        Some(list) => number_among(network, list.entries(), places, c),
         None => None,
     }
 }
 
 /// The number that is taken from a reply of the cell, where `old` is the serial number of the version that was on air, and
-/// these of the reply's lists are in order. The centre's network is these three octets (TS 24.008, 10.5.1.3).
+/// the places are those of the reply's entries. The centre's network is these three octets (TS 24.008, 10.5.1.3).
 pub(crate) fn number_of(
     network: [u8; 3],
     message: &Message,
-    order: InOrder,
+    places: &ReplyPlaces,
     old: Option<u16>,
     c: Cell,
 ) -> Option<u16>
-    requires { IsOrderOf message.now order }
+    requires { ArePlacesOf network message.now places.now }
     ensures { result ≡ number_of network message.now old c }
 {
     match old {
-        Some(_) => number_in(network, numbers_of(message), order.counts, c),
+        Some(_) => number_in(network, numbers_of(message), places.counts.as_ref(), c),
         None => None,
     }
 }

@@ -6,6 +6,7 @@
 #![tactic(auto)]
 
 pub mod answer;
+mod count_places;
 pub mod counts;
 pub mod effect;
 pub mod effects;
@@ -14,7 +15,7 @@ pub mod event;
 mod finding;
 pub mod folding;
 pub mod in_flight;
-pub mod in_order;
+mod last_places;
 mod lookups;
 pub mod naming;
 pub mod network;
@@ -23,6 +24,7 @@ pub mod outcome;
 pub mod refusal;
 pub mod replies;
 pub mod reply;
+mod reply_places;
 pub mod replying;
 pub mod settings;
 pub mod stepping;

@@ -1,17 +1,19 @@
 //! The entry of a cell in a list of a reply. BSCs answer in the order of the order's cells, each by an identification of its
-//! own, so that the entry is mostly found by halves; in any other list all entries are looked at.
+//! own, so that the entry is mostly found by halves. Of any other list the places of the entries are gathered once.
 
-ghost use Rattle.std.specs.Prelude.{◌≡◌, true, false, find};
+ghost use Rattle.std.specs.Prelude.{◌≡◌, ℕ, true, false, List, find, reverse};
 ghost use Rattle.std.specs.List.{list_any};
 ghost use Rattle.std.specs.List.Sorted.{IsPartitionPoint};
-ghost use Rattle.std.specs.Option.{option_copied};
+ghost use Rattle.std.specs.Option.{option_copied, option_map};
 ghost use Rattle.cbsp_ie.specs.CellId.{names};
 ghost use Rattle.centre_events.specs.Counts.{gives_number, last_number, numbers_of};
 ghost use Rattle.centre_events.specs.Known.{is_named};
-ghost use Rattle.centre_events.specs.Lookups.{is_before, id_lt, are_ordered, failures_of, ids_of, are_failures_ordered, are_ids_ordered, are_counts_ordered, IsOrderOf};
+ghost use Rattle.centre_events.specs.LastPlaces.{IsPlaced};
+ghost use Rattle.centre_events.specs.Lookups.{is_before, id_lt, are_ordered, failures_of, ids_of, AreFailuresPlaced, AreIdsPlaced, AreCountsPlaced};
 ghost use Rattle.centre_events.specs.Outcomes.{failure_in};
 
-use crate::in_order::InOrder;
+use crate::count_places::CountPlaces;
+use crate::last_places::LastPlaces;
 use cbsp_ie::{CellId, CellIds, CountEntry, Counts, FailEntry, Failures};
 use cbsp_messages::Message;
 use common::Cell;
@@ -45,28 +47,28 @@ fn id_lt(id: &CellId, next: &CellId) -> bool
 }
 
 /// Whether the failures are of single cells in ascending order.
-fn failures_rise(failures: &[FailEntry]) -> bool
+pub(crate) fn failures_rise(failures: &[FailEntry]) -> bool
     ensures { result ≡ true → are_ordered (λ e. e.id) failures.now ≡ true }
 {
     failures.is_sorted_by(|entry, next| id_lt(&entry.id, &next.id))
 }
 
 /// Whether the identifications are those of single cells in ascending order.
-fn ids_rise(ids: &[CellId]) -> bool
+pub(crate) fn ids_rise(ids: &[CellId]) -> bool
     ensures { result ≡ true → are_ordered (λ i. i) ids.now ≡ true }
 {
     ids.is_sorted_by(|id, next| id_lt(id, next))
 }
 
 /// Whether the numbers are of single cells in ascending order.
-fn counts_rise(entries: &[CountEntry]) -> bool
+pub(crate) fn counts_rise(entries: &[CountEntry]) -> bool
     ensures { result ≡ true → are_ordered (λ e. e.id) entries.now ≡ true }
 {
     entries.is_sorted_by(|entry, next| id_lt(&entry.id, &next.id))
 }
 
 /// The failures that the reply lists.
-fn failures_of(message: &Message) -> Option<&Failures>
+pub(crate) fn failures_of(message: &Message) -> Option<&Failures>
     ensures { option_copied result ≡ failures_of message.now }
 {
     match message {
@@ -78,7 +80,7 @@ fn failures_of(message: &Message) -> Option<&Failures>
 }
 
 /// The cells that the reply lists as those in which it was carried out.
-fn ids_of(message: &Message) -> Option<&CellIds>
+pub(crate) fn ids_of(message: &Message) -> Option<&CellIds>
     ensures { option_copied result ≡ ids_of message.now }
 {
     match message {
@@ -100,47 +102,6 @@ pub(crate) fn numbers_of(message: &Message) -> Option<&Counts>
         Message::StatusComplete(said) => Some(&said.counts),
         Message::StatusFailure(said) => said.counts.as_ref(),
         _ => None,
-    }
-}
-
-/// Whether the list of failures, where there is one, is in order.
-fn are_failures_ordered(failures: Option<&Failures>) -> bool
-    ensures { result ≡ true → are_failures_ordered (option_copied failures.entry) ≡ true }
-{
-    match failures {
-        Some(failures) => failures_rise(failures.as_slice()),
-        None => true,
-    }
-}
-
-/// Whether the list of cells, where there is one, is in order.
-fn are_ids_ordered(list: Option<&CellIds>) -> bool
-    ensures { result ≡ true → are_ids_ordered (option_copied list.entry) ≡ true }
-{
-    match list {
-        Some(list) => ids_rise(list.ids()),
-        None => true,
-    }
-}
-
-/// Whether the list of numbers, where there is one, is in order.
-fn are_counts_ordered(list: Option<&Counts>) -> bool
-    ensures { result ≡ true → are_counts_ordered (option_copied list.entry) ≡ true }
-{
-    match list {
-        Some(list) => counts_rise(list.entries()),
-        None => true,
-    }
-}
-
-/// Which lists of the reply are in order.
-pub(crate) fn order_of(message: &Message) -> InOrder
-    ensures { IsOrderOf message.now result }
-{
-    InOrder {
-        failures: are_failures_ordered(failures_of(message)),
-        cells: are_ids_ordered(ids_of(message)),
-        counts: are_counts_ordered(numbers_of(message)),
     }
 }
 
@@ -219,84 +180,86 @@ fn number_at(network: [u8; 3], entries: &[CountEntry], c: Cell) -> Option<u16>
     }
 }
 
-/// Whether one of the identifications names the cell, where all of them are looked at.
-fn is_any_named(network: [u8; 3], ids: &[CellId], c: Cell) -> bool
-    ensures { result ≡ is_named network ids.now c }
+/// The first of the failures that names the cell, by the places of the failures from the last one on.
+fn first_failure<'a>(
+    failures: &'a [FailEntry],
+    places: &LastPlaces,
+    c: Cell,
+) -> Option<&'a FailEntry>
+    ensures { (network : List ℕ) → IsPlaced (λ d f. names network f.id d) failures.now places.now → option_copied result ≡ failure_in network failures.now c }
 {
-    ids.iter().any(|id| id.names(network, c))
+    failures.get(failures.len().saturating_sub(places.of_cell(c)))
 }
 
-/// Whether one of the entries gives a number of broadcasts of the cell, where all of them are looked at.
-fn is_any_counted(network: [u8; 3], entries: &[CountEntry], c: Cell) -> bool
-    ensures { result ≡ list_any (λ e. names network e.id c) entries.now }
+/// The number of the entry, if there is one.
+fn number_given(entry: Option<&CountEntry>) -> Option<u16>
+    ensures { result ≡ option_map (λ e. e.number) (option_copied entry.entry) }
 {
-    entries.iter().any(|entry| entry.id.names(network, c))
-}
-
-/// The first of the failures that names the cell, where all of them are looked at.
-fn first_failure(network: [u8; 3], failures: &[FailEntry], c: Cell) -> Option<&FailEntry>
-    ensures { option_copied result ≡ failure_in network failures.now c }
-{
-    failures.iter().find(|failure| failure.id.names(network, c))
-}
-
-/// The last number that the entries give of the cell, where all of them are looked at.
-#[tactic(auto, using(crate::proofs::PastLemmas::past_more))]
-fn last_number(network: [u8; 3], entries: &[CountEntry], c: Cell) -> Option<u16>
-    ensures { result ≡ last_number network entries.now c }
-{
-    let mut number = None;
-    for entry in entries {
-        if gives_number(network, c, entry) {
-            number = Some(entry.number);
-        }
+    match entry {
+        Some(entry) => Some(entry.number),
+        None => None,
     }
-    number
+}
+
+/// The last number of the cell, by the places of the entries that give one.
+#[tactic(auto, using(crate::proofs::PlaceLemmas::none_turned))]
+fn last_number(entries: &[CountEntry], places: &LastPlaces, c: Cell) -> Option<u16>
+    ensures { (network : List ℕ) → IsPlaced (gives_number network) (reverse entries.now) places.now → result ≡ last_number network entries.now c }
+{
+    let place = places.of_cell(c);
+    if place == 0 {
+        return None;
+    }
+    number_given(entries.get(place - 1))
 }
 
 /// The first of the failures that names the cell.
-pub(crate) fn failure_in(
+pub(crate) fn failure_in<'a>(
     network: [u8; 3],
-    failures: &[FailEntry],
-    is_ordered: bool,
+    failures: &'a [FailEntry],
+    places: Option<&LastPlaces>,
     c: Cell,
-) -> Option<&FailEntry>
-    requires { is_ordered ≡ true → are_ordered (λ e. e.id) failures.now ≡ true }
+) -> Option<&'a FailEntry>
+    requires { AreFailuresPlaced network failures.now (option_copied places) }
     ensures { option_copied result ≡ failure_in network failures.now c }
 {
-    if is_ordered {
-        failure_at(network, failures, c)
-    } else {
-        first_failure(network, failures, c)
+    match places {
+        Some(places) => first_failure(failures, places, c),
+        None => failure_at(network, failures, c),
     }
 }
 
 /// Whether one of the identifications names the cell.
-pub(crate) fn is_named(network: [u8; 3], ids: &[CellId], is_ordered: bool, c: Cell) -> bool
-    requires { is_ordered ≡ true → are_ordered (λ i. i) ids.now ≡ true }
+#[tactic(auto, using(crate::proofs::PlaceLemmas::any_placed))]
+pub(crate) fn is_named(
+    network: [u8; 3],
+    ids: &[CellId],
+    places: Option<&LastPlaces>,
+    c: Cell,
+) -> bool
+    requires { AreIdsPlaced network ids.now (option_copied places) }
     ensures { result ≡ is_named network ids.now c }
 {
-    if is_ordered {
-        is_named_at(network, ids, c)
-    } else {
-        is_any_named(network, ids, c)
+    match places {
+        Some(places) => places.of_cell(c) > 0,
+        None => is_named_at(network, ids, c),
     }
 }
 
 /// Whether one of the entries gives a number of broadcasts of the cell.
+#[tactic(auto, using(crate::proofs::PlaceLemmas::any_placed))]
 pub(crate) fn is_counted(
     network: [u8; 3],
     entries: &[CountEntry],
-    is_ordered: bool,
+    places: Option<&CountPlaces>,
     c: Cell,
 ) -> bool
-    requires { is_ordered ≡ true → are_ordered (λ e. e.id) entries.now ≡ true }
+    requires { AreCountsPlaced network entries.now (option_copied places) }
     ensures { result ≡ list_any (λ e. names network e.id c) entries.now }
 {
-    if is_ordered {
-        is_counted_at(network, entries, c)
-    } else {
-        is_any_counted(network, entries, c)
+    match places {
+        Some(places) => places.entries.of_cell(c) > 0,
+        None => is_counted_at(network, entries, c),
     }
 }
 
@@ -304,15 +267,14 @@ pub(crate) fn is_counted(
 pub(crate) fn number_among(
     network: [u8; 3],
     entries: &[CountEntry],
-    is_ordered: bool,
+    places: Option<&CountPlaces>,
     c: Cell,
 ) -> Option<u16>
-    requires { is_ordered ≡ true → are_ordered (λ e. e.id) entries.now ≡ true }
+    requires { AreCountsPlaced network entries.now (option_copied places) }
     ensures { result ≡ last_number network entries.now c }
 {
-    if is_ordered {
-        number_at(network, entries, c)
-    } else {
-        last_number(network, entries, c)
+    match places {
+        Some(places) => last_number(entries, &places.numbers, c),
+        None => number_at(network, entries, c),
     }
 }

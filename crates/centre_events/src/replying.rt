@@ -3,17 +3,19 @@
 ghost use Rattle.std.specs.Prelude.{◌≡◌, true, IfOk};
 ghost use Rattle.std.specs.Option.{option_copied};
 ghost use Rattle.centre_events.specs.InFlight.{agrees, written_by, cleared_by, new_of, old_of, id_of, cells_of, is_kill, kills, writes, asks, agree, matches, matches_flight};
-ghost use Rattle.centre_events.specs.Lookups.{are_ids_ordered, are_counts_ordered, IsOrderOf};
+ghost use Rattle.centre_events.specs.Lookups.{AreIdsPlacedIn, AreCountsPlacedIn, ArePlacesOf};
 ghost use Rattle.centre_events.specs.Outcomes.{is_in_list, is_counted_in, done_or_silent, failure_outcome, outcome, replies_to, failed_ids};
 ghost use Rattle.centre_events.specs.Verdict.{is_indication, is_out_of_place};
 
+use crate::count_places::CountPlaces;
 use crate::counts::number_of;
 use crate::in_flight::InFlight;
-use crate::in_order::InOrder;
-use crate::lookups::{failure_in, is_counted, is_named, order_of};
+use crate::last_places::LastPlaces;
+use crate::lookups::{failure_in, is_counted, is_named};
 use crate::outcome::Outcome;
 use crate::replies::Replies;
 use crate::reply::Reply;
+use crate::reply_places::{ReplyPlaces, places_of};
 use cbsp_ie::{CellId, CellIds, Counts, FailEntry, Failures};
 use cbsp_messages::Message;
 use common::Cell;
@@ -178,23 +180,33 @@ pub fn is_out_of_place(message: &Message, flight: Option<&InFlight>) -> bool
 }
 
 /// Whether the cell is one of those that a cell list names, where there is one.
-fn is_in_list(network: [u8; 3], list: Option<&CellIds>, is_ordered: bool, c: Cell) -> bool
-    requires { is_ordered ≡ true → are_ids_ordered (option_copied list) ≡ true }
+fn is_in_list(
+    network: [u8; 3],
+    list: Option<&CellIds>,
+    places: Option<&LastPlaces>,
+    c: Cell,
+) -> bool
+    requires { AreIdsPlacedIn network (option_copied list) (option_copied places) }
     ensures { result ≡ is_in_list network (option_copied list.entry) c }
 {
     match list {
-        Some(list) => is_named(network, list.ids(), is_ordered, c),
+        Some(list) => is_named(network, list.ids(), places, c),
         None => false,
     }
 }
 
 /// Whether a number of broadcasts is given of the cell, where there is such a list.
-fn is_counted_in(network: [u8; 3], list: Option<&Counts>, is_ordered: bool, c: Cell) -> bool
-    requires { is_ordered ≡ true → are_counts_ordered (option_copied list) ≡ true }
+fn is_counted_in(
+    network: [u8; 3],
+    list: Option<&Counts>,
+    places: Option<&CountPlaces>,
+    c: Cell,
+) -> bool
+    requires { AreCountsPlacedIn network (option_copied list) (option_copied places) }
     ensures { result ≡ is_counted_in network (option_copied list.entry) c }
 {
     match list {
-        Some(list) => is_counted(network, list.entries(), is_ordered, c),
+        Some(list) => is_counted(network, list.entries(), places, c),
         None => false,
     }
 }
@@ -210,30 +222,69 @@ fn failure_outcome(failure: Option<&FailEntry>, is_done: bool) -> Outcome
     }
 }
 
-/// What the reply says of the cell, where these of its lists are in order. The centre's network is these three octets
+/// What the reply says of the cell, where the places are those of its entries. The centre's network is these three octets
 /// (TS 24.008, 10.5.1.3).
-fn outcome(network: [u8; 3], message: &Message, order: InOrder, c: Cell) -> Outcome
-    requires { IsOrderOf message.now order }
+fn outcome(network: [u8; 3], message: &Message, places: &ReplyPlaces, c: Cell) -> Outcome
+    requires { ArePlacesOf network message.now places.now }
     ensures { result ≡ outcome network message.now c }
 {
     match message {
         Message::WriteFailure(said) => failure_outcome(
-            failure_in(network, said.failures.as_slice(), order.failures, c),
-            is_in_list(network, said.cells.as_ref(), order.cells, c)
-                || is_counted_in(network, said.counts.as_ref(), order.counts, c),
+            failure_in(
+                network,
+                said.failures.as_slice(),
+                places.failures.as_ref(),
+                c,
+            ),
+            is_in_list(network, said.cells.as_ref(), places.cells.as_ref(), c)
+                || is_counted_in(network, said.counts.as_ref(), places.counts.as_ref(), c),
         ),
         Message::KillFailure(said) => failure_outcome(
-            failure_in(network, said.failures.as_slice(), order.failures, c),
-            is_in_list(network, said.cells.as_ref(), order.cells, c)
-                || is_counted_in(network, said.counts.as_ref(), order.counts, c),
+            failure_in(
+                network,
+                said.failures.as_slice(),
+                places.failures.as_ref(),
+                c,
+            ),
+            is_in_list(network, said.cells.as_ref(), places.cells.as_ref(), c)
+                || is_counted_in(network, said.counts.as_ref(), places.counts.as_ref(), c),
         ),
         Message::StatusFailure(said) => failure_outcome(
-            failure_in(network, said.failures.as_slice(), order.failures, c),
-            is_counted_in(network, said.counts.as_ref(), order.counts, c),
+            failure_in(
+                network,
+                said.failures.as_slice(),
+                places.failures.as_ref(),
+                c,
+            ),
+            is_counted_in(network, said.counts.as_ref(), places.counts.as_ref(), c),
         ),
         Message::ErrorIndication(said) => Outcome::Refused(said.cause),
         _ => Outcome::Done,
     }
+}
+
+/// What the reply says of each cell of what was in flight, in their order, where the places are those of its entries.
+fn replies_by(
+    alloc: Global,
+    network: [u8; 3],
+    message: &Message,
+    places: &ReplyPlaces,
+    flight: &InFlight,
+) -> Result<Replies, AllocError>
+    requires { ArePlacesOf network message.now places.now }
+    ensures { IfOk result (λ r. r ≡ replies_to network message.now flight.now) }
+{
+    let old = old_of(flight);
+    let cells = cells_of(flight);
+    let mut said = Vec::with_capacity(alloc, cells.len())?;
+    for cell in cells {
+        said.push(Reply {
+            cell: *cell,
+            outcome: outcome(network, message, places, *cell),
+            count: number_of(network, message, places, old, *cell),
+        })?;
+    }
+    Ok(Replies::from_vec(said))
 }
 
 /// What the reply says of each cell of what was in flight, in their order.
@@ -245,18 +296,8 @@ pub fn replies_to(
 ) -> Result<Replies, AllocError>
     ensures { IfOk result (λ r. r ≡ replies_to network message.now flight.now) }
 {
-    let old = old_of(flight);
-    let order = order_of(message);
-    let cells = cells_of(flight);
-    let mut said = Vec::with_capacity(alloc, cells.len())?;
-    for cell in cells {
-        said.push(Reply {
-            cell: *cell,
-            outcome: outcome(network, message, order, *cell),
-            count: number_of(network, message, order, old, *cell),
-        })?;
-    }
-    Ok(Replies::from_vec(said))
+    let places = places_of(alloc, network, message)?;
+    replies_by(alloc, network, message, &places, flight)
 }
 
 /// The identifications of the cells that failed.

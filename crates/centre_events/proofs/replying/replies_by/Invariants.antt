@@ -1,7 +1,7 @@
 use Rattle.std.proofs.Common.{◌≡◌, map, take}
 use Rattle.centre_events.specs.InFlight.{cells_of}
 use Rattle.centre_events.specs.Outcomes.{reply_of}
-use Rattle.centre_events.proofs.replying.replies_to.Given as goal
+use Rattle.centre_events.proofs.replying.replies_by.Given as goal
 
 -- what is said of the cells passed
 abbrev pub invariant-loop-cell : goal.invariant-loop-cell
