@@ -18,7 +18,8 @@ use Rattle.common.specs.OrderLaws.{all_from_none, all_inserted, any_inserted, as
 use Rattle.common.specs.RisingLaws.{rises}
 use Rattle.common.specs.declared.cell.Cell.{Cell}
 use Rattle.order_maker.specs.ByBsc.{bsc_lt, is_bsc, has_own, all_held, AreByBsc}
-use Rattle.order_maker.specs.Pending.{OrderKey, HeldOrders, action_eq, key_of, key_cmp, has_cell, holds, are_of, IsListOf}
+use Rattle.order_maker.specs.Pending.{OrderKey, HeldOrders, action_eq, key_of, key_cmp, has_cell, holds, is_listed, are_of, IsListOf}
+use Rattle.order_maker.specs.OrderingLaws.{action_decides}
 use Rattle.order_maker.specs.declared.action.Action.{Action}
 use Rattle.order_maker.specs.declared.bsc_orders.BscOrders.{BscOrders}
 use Rattle.order_maker.proofs.KeyLemmas.{key_decides}
@@ -288,6 +289,13 @@ none_taken bscs b a by absent d x = step (nat_eq d b) refl
 -- a list of what one holds for the BSC is one of what the other holds, if they hold the same
 pub same_list : (xs : List Action) (held other : HeldOrders) (b : ℕ) → ((a : Action) → holds other b a ≡ holds held b a) → IsListOf xs held b → IsListOf xs other b
 same_list xs held other b same l = record { once = l.once; same = λ a. l.same a ∙ sym (same a) }
+
+-- where nothing is held for the BSC, the list of it is empty
+pub none_listed : (xs : List Action) (held : HeldOrders) (b : ℕ) → ((a : Action) → holds held b a ≡ false) → IsListOf xs held b → xs ≡ []
+none_listed [] held b none l = refl
+none_listed (x ∷ xs) held b none l =
+    let listed : is_listed x (x ∷ xs) ≡ true = ap (λ t. t || is_listed x xs) ((action_decides x x).1 refl) in
+    absurd (let no : true ≡ false = sym listed ∙ l.same x ∙ none x in cc)
 
 -- the BSC that stands at its place
 pub found_bsc : (b : ℕ) (bscs : List BscOrders) (i : ℕ) (e : BscOrders) → i ≡ position_or_len (is_bsc b) bscs → i < length bscs → get_or bscs i e ≡ e → e.bsc ≡ b

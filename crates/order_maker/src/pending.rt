@@ -369,7 +369,7 @@ impl Pending {
     {
         match self.orders_of(b) {
             Some(orders) => orders.has(b),
-            None => OrderMap::new(self.alloc).has(b),
+            None => false,
         }
     }
 }

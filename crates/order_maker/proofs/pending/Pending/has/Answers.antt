@@ -1,6 +1,7 @@
-use Rattle.std.proofs.Common.{◌∙◌, sym, ap}
-use Rattle.order_maker.specs.Pending.{holds}
-use Rattle.order_maker.proofs.ByBscLemmas.{same_list}
+use Rattle.std.proofs.Common.{sym, ap}
+use Rattle.std.specs.Option.{is_some}
+use Rattle.order_maker.specs.Grouping.{first, grouped, in_order}
+use Rattle.order_maker.proofs.ByBscLemmas.{none_listed, same_list}
 use Rattle.order_maker.proofs.pending.Pending.has.Goals as goal
 
 pub returns-in-Some : goal.returns-in-Some
@@ -9,4 +10,4 @@ returns-in-Some c =
 
 pub returns-in-None : goal.returns-in-None
 returns-in-None c =
-    λ xs l. c.has-in-None-2.ensures xs (same_list xs c.args.self.now c.new.result c.args.b (λ a. ap (λ held. holds held c.args.b a) c.new.ensures ∙ sym (c.in-None.ensures.none a)) l)
+    λ xs l. ap (λ ys. is_some (first (grouped (in_order ys)))) (sym (none_listed xs c.args.self.now c.args.b c.in-None.ensures.none l))
