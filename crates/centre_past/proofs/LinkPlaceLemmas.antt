@@ -47,6 +47,17 @@ pub found_at_start : (n : ℕ) (ls : List Link) (i : ℕ) (l : Link) → IsStart
 found_at_start n ls i l start within g e =
     sym (position_or_len_is (is_link_of n) ls i l (omega arith) (λ k b. less_is_other (get_or ls k l).bsc n (start.0 k l (omega arith) b)) (λ b. ap (is_link_of n) (sym g) ∙ e))
 
+-- one that is that of the number is the one that a search ends at, since no other is
+pub found_there : (n : ℕ) (ls : List Link) (i : ℕ) (l : Link) → is_ascending link_lt ls ≡ true → i < length ls → l ≡ get_or ls i l → is_link_of n l ≡ true → i ≡ position_or_len (is_link_of n) ls
+found_there n ls i l o within g e =
+    sym (position_or_len_is (is_link_of n) ls i l (omega arith) other (λ b. ap (is_link_of n) (sym g) ∙ e))
+  where
+    other : (k : ℕ) → k < i → is_link_of n (get_or ls k l) ≡ false
+    other k b =
+        let less : (get_or ls k l).bsc < (get_or ls i l).bsc = number_below ls k i l o b within in
+        let is : (get_or ls i l).bsc ≡ l.bsc = ap (λ (x : Link). x.bsc) (sym g) in
+        grind (arith, nat_tests, common_steps, less, is, e)
+
 -- it is that of another, and so is each of the links
 pub none_at_start : (n : ℕ) (ls : List Link) (i : ℕ) (l : Link) → is_ascending link_lt ls ≡ true → IsStart n ls i → i < length ls → l ≡ get_or ls i l → is_link_of n l ≡ false → length ls ≡ position_or_len (is_link_of n) ls
 none_at_start n ls i l o start within g e =

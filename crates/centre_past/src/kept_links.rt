@@ -48,7 +48,7 @@ fn start_of(links: &[Link], b: BscId) -> usize
 }
 
 /// Where the link of the BSC stands, found by halves; past the last where it isn't there.
-fn place_of(links: &[Link], b: BscId) -> usize
+fn searched_place(links: &[Link], b: BscId) -> usize
     requires { is_ascending link_lt links.now ≡ true }
     ensures { result ≡ position_or_len (is_link_of b) links.now }
 {
@@ -56,6 +56,20 @@ fn place_of(links: &[Link], b: BscId) -> usize
     match links.get(place) {
         Some(link) if link.bsc == b => place,
         _ => links.len(),
+    }
+}
+
+/// Where the link of the BSC stands; past the last where it isn't there. It is first looked for where it stands if BSCs are numbered
+/// without gaps.
+#[tactic(auto, using(crate::proofs::LinkPlaceLemmas::found_there))]
+fn place_of(links: &[Link], b: BscId) -> usize
+    requires { is_ascending link_lt links.now ≡ true }
+    ensures { result ≡ position_or_len (is_link_of b) links.now }
+{
+    let likely = usize::from(b.number()) - 1;
+    match links.get(likely) {
+        Some(link) if link.bsc == b => likely,
+        _ => searched_place(links, b),
     }
 }
 

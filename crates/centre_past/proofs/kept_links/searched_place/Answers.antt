@@ -1,6 +1,6 @@
 use Rattle.std.proofs.Common.{◌≡◌, ◌<◌, ◌≤◌, length, get_or, rules}
 use Rattle.centre_past.proofs.LinkPlaceLemmas.{found_at_start, none_at_start, none_past_last}
-use Rattle.centre_past.proofs.kept_links.place_of.Goals as goal
+use Rattle.centre_past.proofs.kept_links.searched_place.Goals as goal
 
 pub returns-in-Some : goal.returns-in-Some
 returns-in-Some c =
