@@ -1,6 +1,6 @@
 //! What is asked of a centre, from what it keeps.
 
-ghost use Rattle.std.specs.Prelude.{◌≡◌, ◌++◌, Some, Ok, Err, true, IfOk, OnOk, OnErr, if◌then◌else◌};
+ghost use Rattle.std.specs.Prelude.{◌≡◌, ◌&&◌, not, ◌++◌, Some, Ok, Err, true, IfOk, OnOk, OnErr, if◌then◌else◌};
 ghost use Rattle.std.specs.List.{flat_map};
 ghost use Rattle.coverage_board.specs.Board.{area_of};
 ghost use Rattle.kept_tables.specs.Consistent.{Consistent};
@@ -14,6 +14,7 @@ ghost use Rattle.centre_past.specs.IsKept.{IsKept};
 ghost use Rattle.centre_past.specs.Legal.{Legal};
 ghost use Rattle.centre_past.specs.LinkStates.{has_pending, link_state};
 ghost use Rattle.centre_events.specs.Kept.{AreAreasOf};
+ghost use Rattle.centre_events.specs.Links.{is_bsc, is_up};
 ghost use Rattle.centre_past.specs.Numbers.{board, area_board};
 ghost use Rattle.centre_events.specs.Past.{Past};
 ghost use Rattle.centre_events.specs.Pending.{pending};
@@ -60,6 +61,14 @@ pub fn link_state(kept: &Kept, b: BscId) -> LinkState
         is_up: is_up(links, b),
         has_pending: kept.tables.has(b),
     }
+}
+
+/// Whether the link of the BSC is up, and no order is pending for it. This takes less than the state of the link.
+pub fn is_quiet(kept: &Kept, b: BscId) -> bool
+    ensures quiet { (settings : Settings) (past : Past) → Legal settings past → IsKept past kept.now → result ≡ (is_up past b && not (has_pending past b)) }
+    ensures there { (settings : Settings) (past : Past) → Legal settings past → IsKept past kept.now → result ≡ true → is_bsc past b ≡ true }
+{
+    is_up(&kept.links, b) && !kept.tables.has(b)
 }
 
 /// The numbers of the warning, if the book has it.

@@ -78,7 +78,7 @@ impl Model for Centre {
 }
 
 impl Centre {
-    ghost use Rattle.std.specs.Prelude.{◌≡◌, ◌<◌, ◌≤◌, ◌-◌, ◌+◌, ◌*◌, ◌++◌, ◌∷◌, [], ◌⊎◌, ⊤, length, nat_le, reverse, slice_get, true, false, Ok, Err, None, Some, IfOk, IfErr, IfSome, IsSome, OnOk, OnErr, if◌then◌else◌};
+    ghost use Rattle.std.specs.Prelude.{◌≡◌, ◌<◌, ◌≤◌, ◌-◌, ◌+◌, ◌*◌, ◌&&◌, not, ◌++◌, ◌∷◌, [], ◌⊎◌, ⊤, length, nat_le, reverse, slice_get, true, false, Ok, Err, None, Some, IfOk, IfErr, IfSome, IsSome, OnOk, OnErr, if◌then◌else◌};
     ghost use Rattle.std.specs.Borrow.{sem, follows_so};
     ghost use Rattle.std.specs.Option.{option_copied};
     ghost use mathlib.Core.Option.{none};
@@ -95,7 +95,7 @@ impl Centre {
     ghost use Rattle.centre_events.specs.Kept.{is_edit};
     ghost use Rattle.centre_past.specs.Legal.{Lawful, all_entries, new_centre, past};
     ghost use Rattle.centre_past.specs.LinkStates.{has_pending, link_state};
-    ghost use Rattle.centre_events.specs.Links.{is_bsc};
+    ghost use Rattle.centre_events.specs.Links.{is_bsc, is_up};
     ghost use Rattle.centre_past.specs.Lists.{area_rows, area_selectors, bsc_rows, cell_rows, failed_of, plan_counts, sheet_of, status, warning_lt, warning_rows};
     ghost use Rattle.centre_past.specs.Numbers.{board, area_board};
     ghost use Rattle.centre_events.specs.Pending.{pending};
@@ -333,6 +333,19 @@ impl Centre {
             return Err(Refusal::NoSuchBsc);
         }
         Ok(questions::link_state(&self.kept, b))
+    }
+
+    /// Whether the link of the BSC is up, and no order is pending for it. Less is looked up for it than for `link_of`. It is not so of any
+    /// BSC where the centre is stale. It takes no memory.
+    pub fn is_quiet(&self, b: BscId) -> bool
+        ensures quiet { result ≡ (not self.now.known.stale && (is_up (past self.now.known) b && not (has_pending (past self.now.known) b))) }
+        ensures there { result ≡ true → is_bsc (past self.now.known) b ≡ true }
+    {
+        if self.stale {
+            return false;
+        }
+        tell_over(&self.journal);
+        questions::is_quiet(&self.kept, b)
     }
 
     /// The BSC at which the cell is registered, if it is. `Stale`.

@@ -87,11 +87,22 @@ pub(crate) fn wake_of(
     wake_over(centre, wishes, full, b, link.has_pending)
 }
 
+/// Whether the link of the BSC is up, and there is nothing to send over it, whatever is in flight: so it is with most BSCs.
+fn has_nothing(centre: &Centre, wishes: &[Wish], full: bool, b: BscId) -> bool
+    requires full { full ≡ is_full centre.now.known }
+    ensures { result ≡ true → due centre.now.known wishes.now b (last_link (past centre.now.known) b) ≡ None }
+{
+    !full && wish_for(wishes, b).is_none() && centre.is_quiet(b)
+}
+
 /// Whether there is something to do for the latest link of the BSC.
 pub(crate) fn has_work(centre: &Centre, wishes: &[Wish], full: bool, b: BscId) -> bool
     requires full { full ≡ is_full centre.now.known }
     ensures { result ≡ is_some (due centre.now.known wishes.now b (last_link (past centre.now.known) b)) }
 {
+    if has_nothing(centre, wishes, full, b) {
+        return false;
+    }
     match centre.link_of(b) {
         Ok(link) if link.is_up => wake_over(centre, wishes, full, b, link.has_pending).is_some(),
         _ => true,
