@@ -290,6 +290,11 @@ none_taken bscs b a by absent d x = step (nat_eq d b) refl
 pub same_list : (xs : List Action) (held other : HeldOrders) (b : ℕ) → ((a : Action) → holds other b a ≡ holds held b a) → IsListOf xs held b → IsListOf xs other b
 same_list xs held other b same l = record { once = l.once; same = λ a. l.same a ∙ sym (same a) }
 
+-- nothing is held where no order is
+pub none_held : (held : HeldOrders) → length held ≡ 0 → held ≡ []
+none_held [] none = refl
+none_held (e ∷ es) none = absurd (omega (arith, none))
+
 -- where nothing is held for the BSC, the list of it is empty
 pub none_listed : (xs : List Action) (held : HeldOrders) (b : ℕ) → ((a : Action) → holds held b a ≡ false) → IsListOf xs held b → xs ≡ []
 none_listed [] held b none l = refl

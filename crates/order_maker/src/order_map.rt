@@ -166,6 +166,9 @@ impl OrderMap {
     pub(crate) fn has(&self, b: BscId) -> bool
         ensures { (xs : List Action) → IsListOf xs self.now b → result ≡ is_some (first (grouped (in_order xs))) }
     {
+        if self.orders.is_empty() {
+            return false;
+        }
         let mut orders = self.orders_of(b);
         orders.next().is_some()
     }
