@@ -36,9 +36,6 @@ use std::sync::ledger::{Book, Ledger, Share};
 /// The most desks that an office opens.
 const DESKS: usize = 1024;
 
-/// How many lines events may read before no further one is submitted in the same hold of the lock.
-const MOST_LINES: u64 = 256;
-
 /// A centre, and what is known of each desk. Contracts see what is known of the centre, a row for each desk that was opened,
 /// those rows as they were when entries were last folded, how many receipts the desks have, all together, the parts and the
 /// amount of the share that is kept for desks not yet opened, the wishes, and how often those who wait were interrupted.
@@ -53,7 +50,6 @@ pub struct Held<L: Ledger> {
     rest: Share<L>,
     wishes: Vec<Wish>,
     interrupts: u64,
-    limit: u64,
 }
 
 impl<L: Ledger> Model for Held<L> {
@@ -66,11 +62,11 @@ impl<L: Ledger> Model for Held<L> {
 
     ghost invariant = { λ s. IsHeld s.rows.items s.base_rows.items s.centre.known.folded s.centre.known.journal s.book.total s.rest.parts s.rest.amount
         × (s.folded ≡ length s.centre.known.folded)
-        × HasEachOnce s.wishes.items × (s.limit ≡ s.centre.known.settings.limit) };
+        × HasEachOnce s.wishes.items };
 }
 
 impl<L: Ledger> Held<L> {
-    ghost use Rattle.std.specs.Prelude.{◌≡◌, ◌⊎◌, ◌≤◌, ◌<◌, ◌+◌, ◌-◌, ◌/◌, ◌%◌, ◌^◌, ◌++◌, ◌∷◌, ℕ, [], length, set, true, false, Ok, Err, None, IfOk, IfErr, OnOk, OnErr, MatchBool, nat_lt};
+    ghost use Rattle.std.specs.Prelude.{◌≡◌, ◌⊎◌, ◌≤◌, ◌+◌, ◌-◌, ◌%◌, ◌^◌, ◌++◌, ◌∷◌, ℕ, [], length, set, true, false, Ok, Err, None, IfOk, IfErr, OnOk, OnErr, MatchBool, nat_lt};
     ghost use Rattle.centre_core.specs.Centre.{Leaves, Refuses};
     ghost use Rattle.centre_past.specs.Headline.{PendingGivesPlan};
     ghost use Rattle.centre_past.specs.Legal.{Lawful, all_entries, checkpointed, new_centre, past};
@@ -112,7 +108,6 @@ impl<L: Ledger> Held<L> {
             rest,
             wishes: Vec::new(alloc),
             interrupts: 0,
-            limit: u64::from(journal_limit),
         }
     }
 
@@ -227,19 +222,6 @@ impl<L: Ledger> Held<L> {
         ensures { result ≡ length self.now.centre.journal }
     {
         self.centre.position() - self.folded
-    }
-
-    /// How many lines the centre has read, up to now.
-    pub fn lines_read(&self) -> u64 {
-        self.centre.meter().lines
-    }
-
-    /// Whether a hold of the lock that began at so many lines takes one more event: few were read since, the journal isn't half full.
-    pub fn has_time(&self, lines_read: u64) -> bool
-        ensures room { result ≡ true → length self.now.centre.journal < self.now.centre.settings.limit / 2 }
-    {
-        let read = self.lines_read().saturating_sub(lines_read);
-        read <= MOST_LINES && self.unfolded() < self.limit / 2
     }
 
     /// Whether the centre is stale.

@@ -20,5 +20,4 @@ invariant_of-self-2 g c =
           c.self.invariant.0 fit refl (ap (λ (r : Row). r.entries) c.in_ok-row.ensures.row) (ap (λ (r : Row). r.last) c.in_ok-row.ensures.row) (ap (λ n. set c.self.inside.rows.items (n - 1) c.in_ok-row.row) c.number-number.ensures) (ap (λ (k : Known). k.folded) entered.entry) (ap (λ (k : Known). k.journal) entered.entry) c.in_ok-row.ensures.total,
       c.self.invariant.1 ∙ sym (ap (λ (k : Known). length k.folded) entered.entry),
       c.self.invariant.2,
-      c.self.invariant.3 ∙ sym (ap (λ (k : Known). k.settings.limit) entered.entry),
     )
