@@ -5,5 +5,7 @@ pub mod PlaceLemmas
 pub mod KeyLemmas
 pub mod CellLemmas
 pub mod ShiftLemmas
+pub mod DigitsLemmas
+pub mod ExchangeLemmas
 pub mod KillLemmas
 pub mod AlikeLemmas

@@ -237,7 +237,7 @@ fn is_wanted_alike(before: &Sight<'_>, after: &Sight<'_>) -> bool
 }
 
 /// Whether both lists have the same versions, in the same order.
-fn are_same(versions: &[Serial], others: &[Serial]) -> bool
+pub(crate) fn are_same(versions: &[Serial], others: &[Serial]) -> bool
     ensures { IsTrue result ↔ (versions.now ≡ others.now) }
 {
     versions == others

@@ -12,7 +12,9 @@ use crate::action::Action;
 use crate::bsc_orders::BscOrders;
 use crate::by_bsc::{place_of, put_at, put_first, take_out_at};
 use crate::deed::Deed;
+use crate::deed_set::DeedSet;
 use crate::deeds::{ReplacingSight, has_same_plan, has_same_states, is_same, keeps_versions};
+use crate::exchanging::{put_deeds, take_deeds_out};
 use crate::order::Order;
 use crate::order_map::OrderMap;
 use crate::orders::Orders;
@@ -77,7 +79,7 @@ impl Pending {
         }
     }
 
-    fn put(&mut self, b: BscId, a: Action) -> Result<(), AllocError>
+    pub(crate) fn put(&mut self, b: BscId, a: Action) -> Result<(), AllocError>
         ensures { OnOk result ((d : ℕ) (x : Action) → holds self.new d x ≡ ((nat_eq d b && action_eq x a) || holds self.old d x)) }
     {
         let place = place_of(self.bscs.as_slice(), self.last, b);
@@ -88,7 +90,7 @@ impl Pending {
         put_at(&mut self.bscs, place, b, a)
     }
 
-    fn take_out(&mut self, b: BscId, a: Action)
+    pub(crate) fn take_out(&mut self, b: BscId, a: Action)
         ensures { (d : ℕ) (x : Action) → holds self.new d x ≡ (holds self.old d x && not (nat_eq d b && action_eq x a)) }
     {
         let place = place_of(self.bscs.as_slice(), self.last, b);
@@ -99,7 +101,12 @@ impl Pending {
     }
 
     /// Puts in the deed, if there is one.
-    fn put_deed(&mut self, b: BscId, c: Cell, deed: Option<Deed>) -> Result<(), AllocError>
+    pub(crate) fn put_deed(
+        &mut self,
+        b: BscId,
+        c: Cell,
+        deed: Option<Deed>,
+    ) -> Result<(), AllocError>
         ensures { OnOk result (IsWith self.old self.new b (map (in_cell c) (listed deed))) }
     {
         if let Some(deed) = deed {
@@ -109,7 +116,7 @@ impl Pending {
     }
 
     /// Takes out the deed, if there is one.
-    fn take_deed_out(&mut self, b: BscId, c: Cell, deed: Option<Deed>)
+    pub(crate) fn take_deed_out(&mut self, b: BscId, c: Cell, deed: Option<Deed>)
         ensures { IsWithout self.old self.new b (map (in_cell c) (listed deed)) }
     {
         if let Some(deed) = deed {
@@ -319,6 +326,26 @@ impl Pending {
             return Ok(());
         }
         self.shift_kept(b, c, before, after)
+    }
+
+    /// Takes out what was to be ordered on a line of the BSC and the cell, which is there, and puts in what is to be ordered. The
+    /// only `Err` is that of memory.
+    #[inline(always)]
+    pub fn exchange(
+        &mut self,
+        b: BscId,
+        c: Cell,
+        gone: &DeedSet<'_>,
+        come: &DeedSet<'_>,
+    ) -> Result<(), AllocError>
+        requires { (a : Action) → is_listed a (map (in_cell c) gone.now) ≡ true → holds self.old b a ≡ true }
+        ensures { OnOk result (Shifts self.old self.new b (map (in_cell c) gone.now) (map (in_cell c) come.now)) }
+    {
+        if gone.is_same(come) {
+            return Ok(());
+        }
+        take_deeds_out(self, b, c, gone);
+        put_deeds(self, b, c, come)
     }
 
     /// The orders of the BSC; `None` where it has none, and never had.
