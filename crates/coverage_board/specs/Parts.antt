@@ -3,7 +3,8 @@ use Rattle.std.specs.Prelude.{ℕ, Bool, true, false, ◌&&◌, List, [], ◌∷
 use Rattle.std.specs.List.{list_any}
 use Rattle.common.specs.Sums.{one, sum_of}
 use Rattle.coverage_board.specs.Numbers.{zero_numbers}
-use Rattle.coverage_board.specs.Standings.{Stand, stands}
+use Rattle.coverage_board.specs.Standings.{Stand, is_way, stands}
+use Rattle.coverage_board.specs.declared.line_numbers.LineNumbers.{LineNumbers}
 use Rattle.coverage_board.specs.declared.numbers.Numbers.{Numbers}
 use Rattle.coverage_board.specs.declared.way.Way.TheVariants.{Awaited, OnAir, Failed, Left}
 
@@ -35,9 +36,17 @@ without_left n = record { awaited = n.awaited; on_air = n.on_air; failed = n.fai
 abbrev pub part_where : Bool → Numbers → Numbers
 part_where test p = if test then p else zero_numbers
 
+-- a packed part as numbers
+abbrev pub numbers_of : LineNumbers → Numbers
+numbers_of p = record { awaited = one (is_way Awaited p.way); on_air = one (is_way OnAir p.way); failed = one (is_way Failed p.way); left = one p.left; broadcasts = p.broadcasts }
+
 -- the area of that name is among these
 abbrev pub has_area : List (List ℕ) → List ℕ → Bool
 has_area areas a = list_any (λ b. bytes_eq b a) areas
+
+-- what a line that adds that to the numbers of its warning in these areas adds to those of the area of that name
+abbrev pub part_in : List (List ℕ) → Numbers → List ℕ → Numbers
+part_in areas total a = part_where (has_area areas a) (without_left total)
 
 -- the line's part in the numbers of the area of that name: where the area covers the cell, that in the numbers of the
 -- warning, but for what is left

@@ -1,8 +1,8 @@
 //! The numbers of the areas of one warning.
 
-ghost use Rattle.std.specs.Prelude.{◌≡◌, ◌↔◌, IfOk, IsTrue, List, ℕ, bytes_eq, if◌then◌else◌, slice_get};
+ghost use Rattle.std.specs.Prelude.{◌≡◌, ◌↔◌, IfOk, OnOk, IsTrue, List, ℕ, bytes_eq, if◌then◌else◌, slice_get};
 ghost use Rattle.coverage_board.specs.Board.{area_in, KeepsNoZeroArea};
-ghost use Rattle.coverage_board.specs.Numbers.{moved, Holds, HasRoom};
+ghost use Rattle.coverage_board.specs.Numbers.{moved, Holds};
 
 use crate::area_set::AreaSet;
 use crate::numbers::Numbers;
@@ -32,6 +32,18 @@ fn copied_map(map: &IndexMap<Name, Numbers>) -> Result<IndexMap<Name, Numbers>, 
     Ok(copy)
 }
 
+/// The numbers of the area, which stands at that place.
+#[inline(always)]
+fn numbers_at(map: &IndexMap<Name, Numbers>, place: usize, area: &Name) -> Numbers
+    requires { slice_get map.now.entries place ≡ Some (area.now, area_in map.now.entries area.now) }
+    ensures { result ≡ area_in map.now.entries area.now }
+{
+    match map.get_index(place) {
+        Some((_, numbers)) => *numbers,
+        None => Numbers::zero(),
+    }
+}
+
 /// Takes a part out of the numbers of the area, which stands at that place, and adds another. An area all of whose numbers are
 /// 0 then is taken out, which takes no memory.
 #[inline(always)]
@@ -41,20 +53,20 @@ fn move_there(
     area: &Name,
     out: Numbers,
     part: Numbers,
-)
+) -> Result<(), AllocError>
     requires at { slice_get map.old.entries place ≡ Some (area.now, area_in map.old.entries area.now) }
     requires there { Holds (area_in map.old.entries area.now) out }
-    requires room { HasRoom (area_in map.old.entries area.now) out part }
-    ensures moved { (a : List ℕ) → area_in map.new.entries a ≡ (if bytes_eq area.now a then moved (area_in map.old.entries a) out part else area_in map.old.entries a) }
+    ensures moved { OnOk result ((a : List ℕ) → area_in map.new.entries a ≡ (if bytes_eq area.now a then moved (area_in map.old.entries a) out part else area_in map.old.entries a)) }
     ensures kept { KeepsNoZeroArea map.old.entries → KeepsNoZeroArea map.new.entries }
 {
+    let next = numbers_at(map, place, area).less(out).plus(part)?;
     let (_, numbers) = map.pair_mut(place);
-    let next = numbers.less(out).added(part);
     *numbers = next;
     if !next.is_zero() {
-        return;
+        return Ok(());
     }
     map.swap_remove(area);
+    Ok(())
 }
 
 /// Numbers by the name of an area. An area that isn't there has 0 everywhere, and one that has 0 everywhere isn't there.
@@ -98,7 +110,7 @@ impl AreaNumbers {
     ghost use Rattle.common.specs.Order.{each_once};
     ghost use Rattle.coverage_board.specs.AreaSets.{names_at};
     ghost use Rattle.coverage_board.specs.Board.{area_in};
-    ghost use Rattle.coverage_board.specs.Numbers.{zero_numbers, moved, Holds, HasRoom};
+    ghost use Rattle.coverage_board.specs.Numbers.{zero_numbers, moved, Holds};
     ghost use Rattle.coverage_board.specs.Parts.{has_area, part_where};
 
     pub(crate) fn new(alloc: Global) -> AreaNumbers
@@ -181,12 +193,10 @@ impl AreaNumbers {
         part: Numbers,
     ) -> Result<(), AllocError>
         requires there { Holds (area_in self.old area.now) out }
-        requires room { HasRoom (area_in self.old area.now) out part }
         ensures { OnOk result ((a : List ℕ) → area_in self.new a ≡ (if bytes_eq area.now a then moved (area_in self.old a) out part else area_in self.old a)) }
     {
         if let Some(place) = self.place_of(index, area) {
-            move_there(&mut self.map, place, area, out, part);
-            return Ok(());
+            return move_there(&mut self.map, place, area, out, part);
         }
         self.put_new(area, part)
     }
@@ -201,7 +211,6 @@ impl AreaNumbers {
     ) -> Result<(), AllocError>
         requires once { each_once bytes_eq names.now ≡ true }
         requires there { (a : List ℕ) → Holds (area_in self.old a) (part_where (has_area (names_at bits names.now) a) out) }
-        requires room { (a : List ℕ) → HasRoom (area_in self.old a) (part_where (has_area (names_at bits names.now) a) out) (part_where (has_area (names_at bits names.now) a) part) }
         ensures { OnOk result ((a : List ℕ) → area_in self.new a ≡ moved (area_in self.old a) (part_where (has_area (names_at bits names.now) a) out) (part_where (has_area (names_at bits names.now) a) part)) }
     {
         let mut left = bits;
@@ -225,7 +234,6 @@ impl AreaNumbers {
         part: Numbers,
     ) -> Result<(), AllocError>
         requires there { (a : List ℕ) → Holds (area_in self.old a) (part_where (has_area areas.now a) out) }
-        requires room { (a : List ℕ) → HasRoom (area_in self.old a) (part_where (has_area areas.now a) out) (part_where (has_area areas.now a) part) }
         ensures { OnOk result ((a : List ℕ) → area_in self.new a ≡ moved (area_in self.old a) (part_where (has_area areas.now a) out) (part_where (has_area areas.now a) part)) }
     {
         if out.same(part) {
@@ -244,7 +252,6 @@ impl AreaNumbers {
         part: Numbers,
     ) -> Result<(), AllocError>
         requires there { (a : List ℕ) → Holds (area_in self.old a) (part_where (has_area before.now a) out) }
-        requires room { (a : List ℕ) → HasRoom (area_in self.old a) (part_where (has_area before.now a) out) (part_where (has_area after.now a) part) }
         ensures { OnOk result ((a : List ℕ) → area_in self.new a ≡ moved (area_in self.old a) (part_where (has_area before.now a) out) (part_where (has_area after.now a) part)) }
     {
         self.exchange(before, out, Numbers::zero())?;

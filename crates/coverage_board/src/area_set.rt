@@ -65,8 +65,9 @@ impl<'a> AreaSet<'a> {
     }
 
     /// The names of all areas, and the digits of these.
-    pub(crate) fn parts(&self) -> (&'a [Name], u16)
+    pub fn parts(&self) -> (&'a [Name], u16)
         ensures names { self.now ≡ names_at result.1 result.0.now }
+        ensures digits { AreDigits result.1 result.0.now }
         ensures once { each_once bytes_eq result.0.now ≡ true }
     {
         (self.names, self.bits.bits)

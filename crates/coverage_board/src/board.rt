@@ -4,9 +4,10 @@ ghost use Rattle.std.specs.Prelude.{◌≡◌, ℕ, List, true, nat_eq, if◌the
 ghost use Rattle.std.specs.Map.{lookup};
 ghost use Rattle.coverage_board.specs.Board.{row_of, total_of, area_of, KeepsNoZeroRow};
 ghost use Rattle.coverage_board.specs.Numbers.{moved, Holds, HasRoom};
-ghost use Rattle.coverage_board.specs.Parts.{total_part, area_part};
+ghost use Rattle.coverage_board.specs.Parts.{total_part, area_part, part_in};
 ghost use Rattle.coverage_board.specs.Reading.{stand_of};
 
+use crate::line_part::LinePart;
 use crate::numbers::Numbers;
 use crate::row::Row;
 use crate::stand::Stand;
@@ -94,11 +95,39 @@ fn shift_at(
     done
 }
 
+/// Takes out of the row of that number, which stands at that place, what a line added, and adds what it adds. Where it counts
+/// nothing then, it is taken out, which takes no memory. The areas may be known to be the same.
+#[inline(always)]
+fn exchange_at(
+    rows: &mut IndexMap<u32, Row>,
+    place: usize,
+    number: u32,
+    was: &LinePart<'_>,
+    is: &LinePart<'_>,
+    stays: bool,
+) -> Result<(), AllocError>
+    requires at { slice_get rows.old.entries place ≡ Some (number, row_of rows.old.entries number) }
+    requires areas { stays ≡ true → was.now.areas ≡ is.now.areas }
+    requires total_there { Holds (total_of rows.old.entries number) was.now.total }
+    requires area_there { (a : List ℕ) → Holds (area_of rows.old.entries number a) (part_in was.now.areas was.now.total a) }
+    ensures total { OnOk result ((v : ℕ) → total_of rows.new.entries v ≡ (if nat_eq number v then moved (total_of rows.old.entries v) was.now.total is.now.total else total_of rows.old.entries v)) }
+    ensures area { OnOk result ((v : ℕ) (a : List ℕ) → area_of rows.new.entries v a ≡ (if nat_eq number v then moved (area_of rows.old.entries v a) (part_in was.now.areas was.now.total a) (part_in is.now.areas is.now.total a) else area_of rows.old.entries v a)) }
+    ensures rows { KeepsNoZeroRow rows.old.entries → KeepsNoZeroRow rows.new.entries }
+{
+    let (_, row) = rows.pair_mut(place);
+    let done = row.exchange(was, is, stays);
+    if !row.counts_nothing() {
+        return done;
+    }
+    drop(rows.swap_remove(&number));
+    done
+}
+
 impl Board {
     ghost use Rattle.std.specs.Prelude.{◌≡◌, ℕ, List, nat_eq, if◌then◌else◌, IfOk, OnOk};
     ghost use Rattle.coverage_board.specs.Board.{total_of, area_of, KeepsNoZeroRow};
     ghost use Rattle.coverage_board.specs.Numbers.{zero_numbers, moved, Holds, HasRoom};
-    ghost use Rattle.coverage_board.specs.Parts.{total_part, area_part};
+    ghost use Rattle.coverage_board.specs.Parts.{total_part, area_part, part_in};
     ghost use Rattle.coverage_board.specs.Reading.{stand_of};
 
     /// The same, in memory of its own.
@@ -223,5 +252,53 @@ impl Board {
             return shift_at(&mut self.rows, place, number, before, after, true);
         }
         self.shift(w, before, after)
+    }
+
+    /// Takes out of the numbers of the warning what one line of it added, and adds what it adds. The areas may be known to be the
+    /// same, so that their names need not be compared. At an `Err` memory ran out, or a number didn't fit 64 bits, and what the
+    /// board then holds is not said: it is not to be used any more.
+    #[inline(always)]
+    pub fn exchange(
+        &mut self,
+        w: WarningId,
+        was: &LinePart<'_>,
+        is: &LinePart<'_>,
+        stays: bool,
+    ) -> Result<(), AllocError>
+        requires areas { stays ≡ true → was.now.areas ≡ is.now.areas }
+        requires total_there { Holds (total_of self.old w) was.now.total }
+        requires area_there { (a : List ℕ) → Holds (area_of self.old w a) (part_in was.now.areas was.now.total a) }
+        ensures total { OnOk result ((v : ℕ) → total_of self.new v ≡ (if nat_eq w v then moved (total_of self.old v) was.now.total is.now.total else total_of self.old v)) }
+        ensures area { OnOk result ((v : ℕ) (a : List ℕ) → area_of self.new v a ≡ (if nat_eq w v then moved (area_of self.old v a) (part_in was.now.areas was.now.total a) (part_in is.now.areas is.now.total a) else area_of self.old v a)) }
+    {
+        let number = w.number();
+        if let Some(place) = place_of(&self.rows, self.last, number) {
+            self.last = place;
+            return exchange_at(&mut self.rows, place, number, was, is, stays);
+        }
+        self.add_exchanged(w, was, is)
+    }
+
+    /// The same for a warning that has no row yet. It is called seldom, and isn't inlined, so that its caller stays short.
+    #[inline(never)]
+    fn add_exchanged(
+        &mut self,
+        w: WarningId,
+        was: &LinePart<'_>,
+        is: &LinePart<'_>,
+    ) -> Result<(), AllocError>
+        requires none { lookup (nat_eq w) self.old ≡ None }
+        requires total_there { Holds (total_of self.old w) was.now.total }
+        requires area_there { (a : List ℕ) → Holds (area_of self.old w a) (part_in was.now.areas was.now.total a) }
+        ensures total { OnOk result ((v : ℕ) → total_of self.new v ≡ (if nat_eq w v then moved (total_of self.old v) was.now.total is.now.total else total_of self.old v)) }
+        ensures area { OnOk result ((v : ℕ) (a : List ℕ) → area_of self.new v a ≡ (if nat_eq w v then moved (area_of self.old v a) (part_in was.now.areas was.now.total a) (part_in is.now.areas is.now.total a) else area_of self.old v a)) }
+    {
+        let mut row = Row::new(self.alloc);
+        row.exchange(was, is, false)?;
+        if row.counts_nothing() {
+            return Ok(());
+        }
+        self.rows.insert(w.number(), row)?;
+        Ok(())
     }
 }

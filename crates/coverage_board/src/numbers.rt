@@ -1,8 +1,10 @@
 //! The numbers of a board.
 
-ghost use Rattle.std.specs.Prelude.{◌≡◌, ◌↔◌, IsTrue};
+ghost use Rattle.std.specs.Prelude.{◌≡◌, ◌↔◌, ◌+◌, IsTrue, IfOk};
 ghost use Rattle.coverage_board.specs.Numbers.{zero_numbers, less, added, Holds, FitsWith};
 ghost use Rattle.coverage_board.specs.Parts.{without_left};
+
+use std::alloc::AllocError;
 
 /// How many cells of a warning stand in each way, and how often it was broadcast. A cell that is registered and that
 /// one of the warning's areas covers is counted once, while the warning is active.
@@ -19,6 +21,16 @@ pub struct Numbers {
     pub left: u64,
     /// Broadcasts reported from the covered cells, of all versions of the warning, whether or not it is active.
     pub broadcasts: u64,
+}
+
+/// The sum, where it fits 64 bits.
+fn sum(n: u64, m: u64) -> Result<u64, AllocError>
+    ensures { IfOk result (λ s. s ≡ n + m) }
+{
+    match n.checked_add(m) {
+        Some(sum) => Ok(sum),
+        None => Err(AllocError),
+    }
 }
 
 impl Numbers {
@@ -75,6 +87,21 @@ impl Numbers {
             left: self.left + part.left,
             broadcasts: self.broadcasts + part.broadcasts,
         }
+    }
+
+    /// The numbers with a part more. The only `Err` is that of a number that doesn't fit 64 bits: no centre has so many cells
+    /// that one comes to it.
+    #[inline(always)]
+    pub(crate) fn plus(self, part: Numbers) -> Result<Numbers, AllocError>
+        ensures { IfOk result (λ n. n ≡ added self part) }
+    {
+        Ok(Numbers {
+            awaited: sum(self.awaited, part.awaited)?,
+            on_air: sum(self.on_air, part.on_air)?,
+            failed: sum(self.failed, part.failed)?,
+            left: sum(self.left, part.left)?,
+            broadcasts: sum(self.broadcasts, part.broadcasts)?,
+        })
     }
 
     /// The numbers as an area has them.

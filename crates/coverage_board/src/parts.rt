@@ -12,24 +12,24 @@ use crate::standing::{is_unwanted, is_way, standing};
 use crate::way::Way;
 
 /// 1 where it holds, else 0.
-fn one(holds: bool) -> u64
+pub(crate) fn one(holds: bool) -> u64
     ensures { result ≡ one holds }
 {
     if holds { 1 } else { 0 }
 }
 
 /// What the versions of a line add to the numbers.
-struct VersionsPart {
+pub(crate) struct VersionsPart {
     /// A version is left there.
-    left: bool,
+    pub(crate) left: bool,
     /// How often they were broadcast there.
-    broadcasts: u64,
+    pub(crate) broadcasts: u64,
 }
 
 /// What the versions of the line add, found in one walk over them; one of which nothing is kept adds nothing. Where the count doesn't fit 64 bits, what it is said to
 /// be is open.
 #[inline(always)]
-fn part_of_versions(stand: &Stand<'_>) -> VersionsPart
+pub(crate) fn part_of_versions(stand: &Stand<'_>) -> VersionsPart
     ensures left { result.left ≡ is_left (stand_of stand.now).seen }
     ensures broadcasts { broadcast_count (stand_of stand.now) < 2 ^ 64 → result.broadcasts ≡ broadcast_count (stand_of stand.now) }
 {

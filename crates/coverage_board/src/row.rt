@@ -1,6 +1,7 @@
 //! The numbers of one warning.
 
 use crate::area_numbers::AreaNumbers;
+use crate::line_part::LinePart;
 use crate::numbers::Numbers;
 use crate::parts::total_part;
 use crate::stand::Stand;
@@ -40,7 +41,7 @@ impl Row {
     ghost use Rattle.std.specs.Prelude.{◌≡◌, ◌↔◌, ℕ, List, true, IsTrue, OnOk};
     ghost use Rattle.coverage_board.specs.Board.{nothing, area_in, CountsNothing};
     ghost use Rattle.coverage_board.specs.Numbers.{moved, Holds, HasRoom};
-    ghost use Rattle.coverage_board.specs.Parts.{total_part, area_part};
+    ghost use Rattle.coverage_board.specs.Parts.{total_part, area_part, part_in};
     ghost use Rattle.coverage_board.specs.Reading.{stand_of};
 
     /// Nothing is counted.
@@ -152,5 +153,48 @@ impl Row {
             return self.shift_standing(before, after);
         }
         self.shift(before, after)
+    }
+
+    /// Takes out what a line added, and adds what it adds. The areas may be known to be the same, so that their names need not be
+    /// looked at where the numbers are.
+    #[inline(always)]
+    pub(crate) fn exchange(
+        &mut self,
+        was: &LinePart<'_>,
+        is: &LinePart<'_>,
+        stays: bool,
+    ) -> Result<(), AllocError>
+        requires areas { stays ≡ true → was.now.areas ≡ is.now.areas }
+        requires total_there { Holds self.old.total was.now.total }
+        requires area_there { (a : List ℕ) → Holds (area_in self.old.areas a) (part_in was.now.areas was.now.total a) }
+        ensures total { OnOk result (self.new.total ≡ moved self.old.total was.now.total is.now.total) }
+        ensures areas { OnOk result ((a : List ℕ) → area_in self.new.areas a ≡ moved (area_in self.old.areas a) (part_in was.now.areas was.now.total a) (part_in is.now.areas is.now.total a)) }
+    {
+        if stays {
+            return self.exchange_standing(was, is);
+        }
+        self.total = self.total.less(was.total).plus(is.total)?;
+        self.areas.shift(
+            &was.areas,
+            was.total.without_left(),
+            &is.areas,
+            is.total.without_left(),
+        )
+    }
+
+    /// The same in the same areas.
+    #[inline(always)]
+    fn exchange_standing(&mut self, was: &LinePart<'_>, is: &LinePart<'_>) -> Result<(), AllocError>
+        requires areas { was.now.areas ≡ is.now.areas }
+        requires total_there { Holds self.old.total was.now.total }
+        requires area_there { (a : List ℕ) → Holds (area_in self.old.areas a) (part_in was.now.areas was.now.total a) }
+        ensures total { OnOk result (self.new.total ≡ moved self.old.total was.now.total is.now.total) }
+        ensures areas { OnOk result ((a : List ℕ) → area_in self.new.areas a ≡ moved (area_in self.old.areas a) (part_in was.now.areas was.now.total a) (part_in is.now.areas is.now.total a)) }
+    {
+        if was.total.same(is.total) {
+            return Ok(());
+        }
+        self.total = self.total.less(was.total).plus(is.total)?;
+        self.areas.exchange(&is.areas, was.total.without_left(), is.total.without_left())
     }
 }

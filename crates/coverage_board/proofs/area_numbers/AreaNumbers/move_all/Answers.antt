@@ -4,17 +4,11 @@ use Rattle.coverage_board.proofs.AreaLemmas.{Moves, has_here, has_later, moves, 
 use Rattle.coverage_board.proofs.area_numbers.AreaNumbers.move_all.Goals as goal
 use Rattle.coverage_board.proofs.area_numbers.AreaNumbers.move_all.Goals.{then-left-eq1+in_ok-move_at, else-left-eq1}
 
-pub move_at-requires-clause-there : goal.move_at-requires-clause-there
-move_at-requires-clause-there c =
+pub move_at-requires : goal.move_at-requires
+move_at-requires c =
     let x : List ℕ = c.index-names-index.result in
     let is = has_here c.loop-index.left c.args.names.now c.loop-index.index x c.index-names-index.is c.loop-index-test.true c.if-left-eq1.true in
-    rw (c.loop-index.invariant.kept x is) (rw (c.loop-index.invariant.among x is) at (c.requires.there x))
-
-pub move_at-requires-clause-room : goal.move_at-requires-clause-room
-move_at-requires-clause-room c =
-    let x : List ℕ = c.index-names-index.result in
-    let is = has_here c.loop-index.left c.args.names.now c.loop-index.index x c.index-names-index.is c.loop-index-test.true c.if-left-eq1.true in
-    rw (c.loop-index.invariant.kept x is) (rw (c.loop-index.invariant.among x is) at (c.requires.room x))
+    record { there = rw (c.loop-index.invariant.kept x is) (rw (c.loop-index.invariant.among x is) at (c.requires.there x)) }
 
 even : (n : ℕ) → (n ≡ 1 → ⊥) → (n == 1) ≡ false
 even n other = step (n == 1) refl
