@@ -32,7 +32,7 @@ facts_as p t u k h = rw (h.lines, h.downs) refl
 -- setting which cells are down changes no line
 
 pub lines_itself : (t : Tables) → SameLines t t
-lines_itself t = record { lines = refl; same = record { lines = λ b c w. refl; acts = λ b a. refl; totals = λ w. refl; areas = λ w a. refl }; meter = refl }
+lines_itself t = record { lines = refl; same = record { lines = λ b c w. refl; acts = λ b a. refl; totals = λ w. refl; areas = λ w a. refl; shares = λ k. refl }; meter = refl }
 
 pub lines_trans : (t u v : Tables) → SameLines t u → SameLines u v → SameLines t v
 lines_trans t u v h g = record { lines = g.lines ∙ h.lines; same = same_trans t u v h.same g.same; meter = g.meter ∙ h.meter }

@@ -10,7 +10,7 @@ use Rattle.cell_register.specs.Register.{is_place}
 use Rattle.common.specs.Sums.{count_of}
 use Rattle.common.specs.declared.cell.Cell.{Cell}
 use Rattle.coverage_plan.specs.Plan.{State}
-use Rattle.kept_tables.specs.Changes.{Change, changes_key, Tells, mixed, Begins, FewVersions, Placed}
+use Rattle.kept_tables.specs.Changes.{Change, changes_key, Tells, mixed, Begins, FewVersions}
 use Rattle.kept_tables.specs.Consistent.{Consistent}
 use Rattle.kept_tables.specs.ConsistentLaws.{same_parts, same_tables}
 use Rattle.kept_tables.specs.Same.{SamePart}
@@ -58,22 +58,6 @@ marked_then past desk h spots t downs away kind b c = ap (down_after h.event h.a
 pub downs_then : {p : State} {t : Tables} {h : Happens} {spots : List Spot} {earlier : List LineBefore} (x : Bears p t h spots earlier) (kind : Kind) (b : ℕ) (c : Cell) → down_after h.event h.answer spots kind b c (down_at t.lines kind b c) ≡ is_down (After (entry_of x.desk h) x.past) kind b c
 downs_then {t = t} {h = h} {spots = spots} x kind b c = marked_then x.past x.desk h spots t x.downs x.away kind b c
 
--- a cell is registered at one BSC at most
-
-pub here_at : (past : Past) (k : LineKey) → (facts past k).here ≡ true → place past k.cell ≡ Some k.bsc
-here_at past k h = step (warning_of (book_of past) k.warning) h
-  where
-    at : (o : Option ℕ) (b : ℕ) → is_place o b ≡ true → o ≡ Some b
-    at None b h = cc
-    at (Some d) b h = ap (λ (n : ℕ). Some n) ((unsigned_Decides d b).0 h)
-
-    step : (o : Option Warning) → (facts_of past k.bsc k.cell o).here ≡ true → place past k.cell ≡ Some k.bsc
-    step None h = at (place past k.cell) k.bsc h
-    step (Some w) h = at (place past k.cell) k.bsc h
-
-pub facts_placed : (past : Past) → Placed (facts past)
-facts_placed past = record { place = place past; is = here_at past }
-
 -- a warning of a book whose warnings have 16 versions at most has so many
 found_few : (n : ℕ) (ws : List Warning) → list_all has_versions ws ≡ true → (w : Warning) → find (has_number n) ws ≡ Some w → length w.versions ≤ 16
 found_few n [] all w h = cc
@@ -117,9 +101,6 @@ begins {p = p} {t = t} {h = h} {spots = spots} {earlier = earlier} x u same down
   owner = owner_of ws;
   owns_from = owned x.settings x.past x.legal ws (λ n m s g. owner_is h.event (warnings_of x.past) (warnings_of new) n m s (few_before m s) (few_after m s) (wide_before (entry_of x.desk h) x.past n m s g));
   owns_to = owned x.settings new legal_new ws (λ n m s g. owner_is h.event (warnings_of x.past) (warnings_of new) n m s (few_before m s) (few_after m s) (wide_after (entry_of x.desk h) x.past n m s g));
-  placed_from = facts_placed x.past;
-  placed_to = facts_placed new;
-  few_from = facts_few x.settings x.past x.legal;
   few_to = facts_few x.settings new legal_new;
   tells = subst (Tells (facts x.past) (facts new)) (sym (changes_are x u (λ kind b c. downs kind b c ∙ downs_then x kind b c))) (tells_keys (facts x.past) (facts new) x.keys x.once);
 }

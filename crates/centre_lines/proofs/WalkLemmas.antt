@@ -11,7 +11,7 @@ use Rattle.common.specs.Order.{each_once, is_ascending}
 use Rattle.common.specs.Sums.{count_of}
 use Rattle.common.specs.declared.cell.Cell.{Cell}
 use Rattle.coverage_plan.specs.Plan.{State}
-use Rattle.kept_tables.specs.Changes.{Change, FewVersions, IsNext, Placed, Tells, change_of, mixed}
+use Rattle.kept_tables.specs.Changes.{Change, FewVersions, IsNext, Tells, change_of, mixed}
 use Rattle.kept_tables.specs.Consistent.{Consistent, Owned, is_deed}
 use Rattle.kept_tables.specs.ConsistentLaws.{same_parts, same_tables}
 use Rattle.kept_tables.specs.Facts.{deeds_of}
@@ -54,7 +54,7 @@ use Rattle.centre_past.proofs.UniqueLemmas.{unique}
 use Rattle.centre_past.proofs.WarningLemmas.{legal_sound}
 use Rattle.centre_lines.specs.Following.{AreInBook, Happens, LeavesDown, MadeOther, bearing, entry_of, is_near, keeps_down, keys_of, leaves_blank, line_now, may_change, stays, step_to}
 use Rattle.centre_lines.specs.Walking.{Walks, halfway, walked, with_keys}
-use Rattle.centre_lines.proofs.JoinLemmas.{facts_few, here_at}
+use Rattle.centre_lines.proofs.JoinLemmas.{facts_few}
 use Rattle.centre_lines.proofs.DownLemmas.{down_outside}
 use Rattle.centre_lines.proofs.IndicatedLemmas.{changes_some, number_there}
 use Rattle.centre_lines.proofs.NearLemmas.{far_stays}
@@ -71,18 +71,6 @@ halfway_owned owner past new done first second = record { owns = λ k d h. step 
     step : (k : LineKey) (d : Deed) (b : Bool) → is_deed d (deeds_of (if b then facts new k else facts past k)) ≡ true → owner d.message_id d.serial ≡ Some k.warning
     step k d true h = second.owns k d h
     step k d false h = first.owns k d h
-
--- an event that is no edit leaves each cell where it is registered
-place_stays : (desk : ℕ) (e : Event) (a : Answer) (past : Past) (c : Cell) → is_edit e ≡ false → place (After (record { desk = desk; event = e; answer = a }) past) c ≡ place past c
-place_stays desk (event.Edit x) a past c h = cc
-place_stays desk other a past c h = refl
-
-pub halfway_placed : (desk : ℕ) (h : Happens) (past : Past) (done : LineKey → Bool) → is_edit h.event ≡ false → Placed (halfway past (After (entry_of desk h) past) done)
-halfway_placed desk h past done other = record { place = place past; is = λ k g. step k (done k) g }
-  where
-    step : (k : LineKey) (b : Bool) → (if b then facts (After (entry_of desk h) past) k else facts past k).here ≡ true → place past k.cell ≡ Some k.bsc
-    step k true g = sym (place_stays desk h.event h.answer past k.cell other) ∙ here_at (After (entry_of desk h) past) k g
-    step k false g = here_at past k g
 
 halfway_few : (past new : Past) (done : LineKey → Bool) → FewVersions (facts past) → FewVersions (facts new) → FewVersions (halfway past new done)
 halfway_few past new done first second k = step (done k)
@@ -324,9 +312,6 @@ next_is {h = h} {t = t} {k = k} x u c same key before after = record {
     owner = owner_of (wider h.event (warnings_of x.past) (warnings_of (After (entry_of x.desk h) x.past)));
     owns_from = owned_halfway x x.done;
     owns_to = owned_halfway x (with_keys x.done (k ∷ []));
-    placed_from = halfway_placed x.desk h x.past x.done x.other;
-    placed_to = halfway_placed x.desk h x.past (with_keys x.done (k ∷ [])) x.other;
-    few_from = few_halfway x x.done;
     few_to = few_halfway x (with_keys x.done (k ∷ []));
     tells = tells_one x c key before after;
   };

@@ -4,7 +4,7 @@ use Rattle.std.specs.Prelude.{IfOk, OnErr, OnOk}
 use Rattle.coverage_board.specs.Board.{area_of, total_of}
 use Rattle.coverage_plan.specs.Plan.{State}
 use Rattle.kept_tables.specs.Consistent.{Consistent}
-use Rattle.kept_tables.specs.Tables.{SameTables, Tables}
+use Rattle.kept_tables.specs.Tables.{SameTables, Tables, share_at}
 use Rattle.mirror.specs.Table.{down_at, line_at}
 use Rattle.order_maker.specs.Pending.{holds}
 use Rattle.centre_past.specs.Copying.{IsCopy}
@@ -16,13 +16,14 @@ use Rattle.centre_events.specs.Past.{Past}
 use Rattle.centre_past.specs.declared.kept.Kept.{Kept}
 use Rattle.centre_past.proofs.ReadLemmas.{reads_kept}
 
--- tables that differ in the meter alone have the same lines, actions and numbers
+-- tables that differ in the meter alone have the same lines, shares, actions and numbers
 tables_counted : (t u : Tables) (n : ℕ) → u ≡ record t { lines = record t.lines { meter = n } } → SameTables t u
 tables_counted t u n is = record {
   lines = λ b c w. ap (λ (x : Tables). line_at x.lines b c w) is;
   acts = λ b a. ap (λ (x : Tables). holds x.pending b a) is;
   totals = λ w. ap (λ (x : Tables). total_of x.board w) is;
   areas = λ w a. ap (λ (x : Tables). area_of x.board w a) is;
+  shares = λ k. ap (λ (x : Tables). share_at x k) is;
 }
 
 -- what is copied changes by its meter alone

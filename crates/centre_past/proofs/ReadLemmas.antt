@@ -36,7 +36,7 @@ pub reads_none : (s : Kept) → OnlyReadsIn s s
 reads_none s = record {
   plan = refl;
   links = refl;
-  tables = record { lines = refl; downs = refl; same = record { lines = λ b c w. refl; acts = λ b a. refl; totals = λ w. refl; areas = λ w a. refl }; meter = omega arith };
+  tables = record { lines = refl; downs = refl; same = record { lines = λ b c w. refl; acts = λ b a. refl; totals = λ w. refl; areas = λ w a. refl; shares = λ k. refl }; meter = omega arith };
 }
 
 -- lines that are read one after another
@@ -52,6 +52,7 @@ reads_then r s t first next = record {
       acts = λ b a. next.tables.same.acts b a ∙ first.tables.same.acts b a;
       totals = λ w. next.tables.same.totals w ∙ first.tables.same.totals w;
       areas = λ w a. next.tables.same.areas w a ∙ first.tables.same.areas w a;
+      shares = λ k. next.tables.same.shares k ∙ first.tables.same.shares k;
     };
     meter = omega (arith, first.tables.meter, next.tables.meter);
   };
@@ -78,10 +79,11 @@ same_trans t u v h g = record {
   acts = λ b a. g.acts b a ∙ h.acts b a;
   totals = λ w. g.totals w ∙ h.totals w;
   areas = λ w a. g.areas w a ∙ h.areas w a;
+  shares = λ k. g.shares k ∙ h.shares k;
 }
 
 pub as_itself : (t : Tables) → AsBefore t t
-as_itself t = record { lines = refl; downs = refl; same = record { lines = λ b c w. refl; acts = λ b a. refl; totals = λ w. refl; areas = λ w a. refl }; meter = omega arith }
+as_itself t = record { lines = refl; downs = refl; same = record { lines = λ b c w. refl; acts = λ b a. refl; totals = λ w. refl; areas = λ w a. refl; shares = λ k. refl }; meter = omega arith }
 
 pub as_read : (t u v : Tables) → AsBefore t u → SameTables u v → v.lines.lines ≡ u.lines.lines → v.lines.downs ≡ u.lines.downs → u.lines.meter ≤ v.lines.meter → AsBefore t v
 as_read t u v h same lines downs least = record { lines = lines ∙ h.lines; downs = downs ∙ h.downs; same = same_trans t u v h.same same; meter = omega (arith, h.meter, least) }

@@ -1,6 +1,8 @@
 pub mod SumLemmas
-pub mod SpotLemmas
-pub mod BroadcastLemmas
 pub mod NumbersLemmas
-pub mod ViewLemmas
-pub mod SettleLemmas
+pub mod BroadcastLemmas
+pub mod OwnLemmas
+pub mod CountLemmas
+pub mod SoundLemmas
+pub mod NextLemmas
+pub mod ShareLemmas

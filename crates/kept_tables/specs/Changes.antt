@@ -1,7 +1,6 @@
 -- Changes of lines, which take one view to another.
 use Rattle.std.specs.Prelude.{◌≡◌, ◌≤◌, ℕ, Bool, true, false, List, [], ◌∷◌, ◌++◌, Option, Some, length, if◌then◌else◌}
 use Rattle.std.specs.List.{list_any}
-use Rattle.common.specs.declared.cell.Cell.{Cell}
 use Rattle.kept_tables.specs.Consistent.{Consistent, Owned}
 use Rattle.kept_tables.specs.Tables.{Tables}
 use Rattle.kept_tables.specs.View.{View, key_eq}
@@ -32,11 +31,6 @@ Tells from to (x ∷ later) = (from x.key ≡ x.before) × ((to x.key ≡ x.afte
 abbrev pub mixed : View → View → List Change → View
 mixed from to changes k = if changes_key k changes then to k else from k
 
--- a cell is registered at one BSC at most, its place: no line of another BSC says that the cell is registered there
-pub record Placed (v : View) : Type 0 where
-  pub place : Cell → Option ℕ
-  pub is : (k : LineKey) → (v k).here ≡ true → place k.cell ≡ Some k.bsc
-
 -- no warning has more versions than there are update numbers, which have 4 bits (TS 23.041, 9.4.1.2.1)
 abbrev pub FewVersions : View → Type 0
 FewVersions v = (k : LineKey) → length (v k).versions ≤ 16
@@ -49,9 +43,6 @@ pub record Begins (t : Tables) (changes : List Change) : Type 0 where
   pub owner : ℕ → ℕ → Option ℕ
   pub owns_from : Owned owner from
   pub owns_to : Owned owner to
-  pub placed_from : Placed from
-  pub placed_to : Placed to
-  pub few_from : FewVersions from
   pub few_to : FewVersions to
   pub tells : Tells from to changes
 

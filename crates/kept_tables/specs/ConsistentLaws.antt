@@ -1,20 +1,23 @@
 -- What follows where tables are consistent with a view, and with which other views they are consistent then.
-use Rattle.std.proofs.Common.{◌≡◌, ◌<◌, ℕ, Bool, true, false, List, [], Option, Some, None, refl, sym, ◌∙◌, ap, subst}
+use Rattle.std.proofs.Common.{◌≡◌, ℕ, Bool, true, false, List, Option, Some, None, refl, sym, ◌∙◌, ap, subst}
 use Rattle.common.specs.Order.{each_once}
 use Rattle.common.specs.SumLaws.{sums_agree}
 use Rattle.coverage_board.specs.Board.{total_of, area_of}
 use Rattle.coverage_board.specs.Numbers.{zero_numbers}
 use Rattle.coverage_board.specs.declared.numbers.Numbers.{Numbers}
-use Rattle.kept_tables.specs.Consistent.{Consistent, Owned, acts_by, deed_of, is_deed, sum_numbers}
-use Rattle.kept_tables.specs.CountLaws.{counted_blank}
-use Rattle.kept_tables.specs.Facts.{no_facts, deeds_of, total_of_line, area_of_line}
-use Rattle.kept_tables.specs.FactsLaws.{total_of_none, area_of_none}
+use Rattle.kept_tables.specs.Consistent.{Consistent, Owned, acts_by}
+use Rattle.kept_tables.specs.Facts.{no_facts, area_of_line, deeds_of, stand_of, total_of_line}
+use Rattle.kept_tables.specs.FactsLaws.{area_of_none, deeds_of_none, total_of_none}
+use Rattle.kept_tables.specs.Part.{area_of_part, no_part}
+use Rattle.kept_tables.specs.Parts.{AreParts, IsPartOf}
 use Rattle.kept_tables.specs.Same.{SamePart}
+use Rattle.kept_tables.specs.Sound.{deed_of, is_deed, sum_numbers}
+use Rattle.kept_tables.specs.SoundLaws.{acts_are, acts_in, sound_new, sound_same}
 use Rattle.kept_tables.specs.SpotLaws.{spot_decides}
-use Rattle.kept_tables.specs.Tables.{IsEmpty, SameTables, Tables}
+use Rattle.kept_tables.specs.Tables.{IsEmpty, SameTables, Tables, share_at}
 use Rattle.kept_tables.specs.View.{View, key_of, key_at, spot_eq, is_spot}
+use Rattle.kept_tables.specs.declared.line_facts.LineFacts.{LineFacts}
 use Rattle.kept_tables.specs.declared.spot.Spot.{Spot}
-use Rattle.mirror.specs.Line.{state_of}
 use Rattle.mirror.specs.declared.line_key.LineKey.{LineKey}
 use Rattle.order_maker.specs.Pending.{action_eq, holds, is_listed, IsListOf}
 use Rattle.order_maker.specs.declared.action.Action.{Action}
@@ -37,35 +40,23 @@ numbers_agree f xs ys once also out off =
 -- the numbers of a warning are the sums over any cells at their BSCs, each once, elsewhere than which nothing is added
 pub total_is : (t : Tables) (v : View) → Consistent t v → (w : ℕ) (spots : List Spot) → each_once spot_eq spots ≡ true → ((s : Spot) → is_spot s spots ≡ false → total_of_line (v (key_at s w)) ≡ zero_numbers) → total_of t.board w ≡ sum_numbers (λ s. total_of_line (v (key_at s w))) spots
 total_is t v is w spots once off =
-    is.counts.totals w ∙ numbers_agree (λ s. total_of_line (v (key_at s w))) is.counts.spots spots is.counts.once once (λ s h. is.counts.no_total s w h) off
+    is.sound.counts.totals w ∙ sums_same (λ s. (share_at t (key_at s w)).total) (λ s. total_of_line (v (key_at s w))) (λ s. (is.shares.each (key_at s w)).total) is.sound.counts.spots
+    ∙ numbers_agree (λ s. total_of_line (v (key_at s w))) is.sound.counts.spots spots is.sound.counts.once once (λ s h. sym (is.shares.each (key_at s w)).total ∙ is.sound.counts.no_total s w h) off
 
 -- and so are those of an area
 pub area_is : (t : Tables) (v : View) → Consistent t v → (w : ℕ) (a : List ℕ) (spots : List Spot) → each_once spot_eq spots ≡ true → ((s : Spot) → is_spot s spots ≡ false → area_of_line a (v (key_at s w)) ≡ zero_numbers) → area_of t.board w a ≡ sum_numbers (λ s. area_of_line a (v (key_at s w))) spots
 area_is t v is w a spots once off =
-    is.counts.areas w a ∙ numbers_agree (λ s. area_of_line a (v (key_at s w))) is.counts.spots spots is.counts.once once (λ s h. is.counts.no_area s w a h) off
-
--- an action that is to be ordered on a line is one of the warning that owns its message
-acts_from : (v : View) (owner : ℕ → ℕ → Option ℕ) → Owned owner v → (o : Option ℕ) (b : ℕ) (a : Action) → acts_by v o b a ≡ true → owner a.message_id a.serial ≡ o
-acts_from v owner owned None b a h = cc
-acts_from v owner owned (Some w) b a h = owned.owns (key_of b a.cell w) (deed_of a) h
-
--- whoever owns the messages, the same is to be ordered
-pub owners_agree : (v : View) (owner other : ℕ → ℕ → Option ℕ) → Owned owner v → Owned other v → (b : ℕ) (a : Action) → acts_by v (owner a.message_id a.serial) b a ≡ acts_by v (other a.message_id a.serial) b a
-owners_agree v owner other owned also b a =
-    step (acts_by v (owner a.message_id a.serial) b a) refl (acts_by v (other a.message_id a.serial) b a) refl
-  where
-    step : (p : Bool) → acts_by v (owner a.message_id a.serial) b a ≡ p → (q : Bool) → acts_by v (other a.message_id a.serial) b a ≡ q → p ≡ q
-    step true e q f =
-        let one : other a.message_id a.serial ≡ owner a.message_id a.serial = acts_from v other also (owner a.message_id a.serial) b a e in
-        sym e ∙ ap (λ o. acts_by v o b a) (sym one) ∙ f
-    step false e true f =
-        let one : owner a.message_id a.serial ≡ other a.message_id a.serial = acts_from v owner owned (other a.message_id a.serial) b a f in
-        sym e ∙ ap (λ o. acts_by v o b a) one ∙ f
-    step false e false f = refl
+    is.sound.counts.areas w a ∙ sums_same (λ s. area_of_part a (share_at t (key_at s w))) (λ s. area_of_line a (v (key_at s w))) (λ s. (is.shares.each (key_at s w)).area a) is.sound.counts.spots
+    ∙ numbers_agree (λ s. area_of_line a (v (key_at s w))) is.sound.counts.spots spots is.sound.counts.once once (λ s h. sym ((is.shares.each (key_at s w)).area a) ∙ is.sound.counts.no_area s w a h) off
 
 -- what is pending is what is to be ordered, whoever owns the messages
 pub pending_is : (t : Tables) (v : View) (owner : ℕ → ℕ → Option ℕ) → Owned owner v → Consistent t v → (b : ℕ) (a : Action) → holds t.pending b a ≡ acts_by v (owner a.message_id a.serial) b a
-pending_is t v owner owned is b a = is.acts b a ∙ owners_agree v is.owner owner is.owned owned b a
+pending_is t v owner owned is b a =
+    acts_are t owner is.sound (λ q d h. owned.owns q d (ap (is_deed d) (sym (is.shares.each q).deeds) ∙ h)) b a ∙ step (owner a.message_id a.serial)
+  where
+    step : (o : Option ℕ) → acts_in t o b a ≡ acts_by v o b a
+    step None = refl
+    step (Some w) = ap (is_deed (deed_of a)) (is.shares.each (key_of b a.cell w)).deeds
 
 -- so actions that are to be ordered at a BSC, each once, are those that are pending for it
 pub listed_is : (t : Tables) (v : View) (owner : ℕ → ℕ → Option ℕ) → Owned owner v → Consistent t v → (b : ℕ) (xs : List Action) → each_once action_eq xs ≡ true → ((a : Action) → is_listed a xs ≡ acts_by v (owner a.message_id a.serial) b a) → IsListOf xs t.pending b
@@ -75,59 +66,35 @@ listed_is t v owner owned is b xs once same = record { once = once; same = λ a.
 pub same_parts : (t : Tables) (v w : View) → ((k : LineKey) → SamePart (v k) (w k)) → Consistent t v → Consistent t w
 same_parts t v w same is = record {
   lines = λ k. is.lines k ∙ (same k).line;
-  owner = is.owner;
-  owned = record { owns = λ k d h. is.owned.owns k d (ap (is_deed d) (same k).deeds ∙ h) };
-  acts = λ b a. is.acts b a ∙ acts_same (is.owner a.message_id a.serial) b a;
-  counts = record {
-    spots = is.counts.spots;
-    once = is.counts.once;
-    in_range = is.counts.in_range;
-    no_total = λ s n h. sym (same (key_at s n)).total ∙ is.counts.no_total s n h;
-    no_area = λ s n a h. sym ((same (key_at s n)).area a) ∙ is.counts.no_area s n a h;
-    totals = λ n. is.counts.totals n ∙ sums_same (λ s. total_of_line (v (key_at s n))) (λ s. total_of_line (w (key_at s n))) (λ s. (same (key_at s n)).total) is.counts.spots;
-    areas = λ n a. is.counts.areas n a ∙ sums_same (λ s. area_of_line a (v (key_at s n))) (λ s. area_of_line a (w (key_at s n))) (λ s. (same (key_at s n)).area a) is.counts.spots;
+  shares = record {
+    each = λ k. record {
+      deeds = (is.shares.each k).deeds ∙ (same k).deeds;
+      total = (is.shares.each k).total ∙ (same k).total;
+      area = λ a. (is.shares.each k).area a ∙ (same k).area a;
+    };
   };
-  counted = λ k s. subst (λ l. (state_of l s).count < 65536) (same k).line (is.counted k s);
+  sound = is.sound;
 }
-  where
-    acts_same : (o : Option ℕ) (b : ℕ) (a : Action) → acts_by v o b a ≡ acts_by w o b a
-    acts_same None b a = refl
-    acts_same (Some n) b a = ap (is_deed (deed_of a)) (same (key_of b a.cell n)).deeds
 
--- tables with the same lines, actions and numbers are consistent with the same views
+-- tables with the same lines, shares, actions and numbers are consistent with the same views
 pub same_tables : (t u : Tables) (v : View) → SameTables t u → Consistent t v → Consistent u v
 same_tables t u v same is = record {
   lines = λ k. same.lines k.bsc k.cell k.warning ∙ is.lines k;
-  owner = is.owner;
-  owned = is.owned;
-  acts = λ b a. same.acts b a ∙ is.acts b a;
-  counts = record {
-    spots = is.counts.spots;
-    once = is.counts.once;
-    in_range = is.counts.in_range;
-    no_total = is.counts.no_total;
-    no_area = is.counts.no_area;
-    totals = λ w. same.totals w ∙ is.counts.totals w;
-    areas = λ w a. same.areas w a ∙ is.counts.areas w a;
-  };
-  counted = is.counted;
+  shares = record { each = λ k. subst (λ p. IsPartOf p (stand_of (v k))) (sym (same.shares k)) (is.shares.each k) };
+  sound = sound_same t u same.shares same.acts same.totals same.areas is.sound;
 }
 
 -- empty tables are consistent with a view in which no warning is in the book
 pub empty_consistent : (t : Tables) (v : View) (down here : LineKey → Bool) → ((k : LineKey) → v k ≡ no_facts (down k) (here k)) → IsEmpty t → Consistent t v
 empty_consistent t v down here none empty = record {
   lines = λ k. empty.lines k.bsc k.cell k.warning ∙ sym (ap (λ f. f.line) (none k));
-  owner = λ m s. None;
-  owned = record { owns = λ k d h. absurd (let no : false ≡ true = sym (ap (λ f. is_deed d (deeds_of f)) (none k)) ∙ h in cc) };
-  acts = empty.acts;
-  counts = record {
-    spots = [];
-    once = refl;
-    in_range = refl;
-    no_total = λ s w h. ap total_of_line (none (key_at s w)) ∙ total_of_none (down (key_at s w)) (here (key_at s w));
-    no_area = λ s w a h. ap (area_of_line a) (none (key_at s w)) ∙ area_of_none a (down (key_at s w)) (here (key_at s w));
-    totals = empty.totals;
-    areas = empty.areas;
-  };
-  counted = λ k s. subst (λ f. (state_of f.line s).count < 65536) (sym (none k)) (counted_blank s);
+  shares = record { each = λ k. subst (λ p. IsPartOf p (stand_of (v k))) (sym (empty.shares k)) (subst (λ f. IsPartOf no_part (stand_of f)) (sym (none k)) (nothing (down k) (here k))) };
+  sound = sound_new t empty.shares empty.acts empty.totals empty.areas;
 }
+  where
+    nothing : (d h : Bool) → IsPartOf no_part (stand_of (no_facts d h))
+    nothing d h = record {
+      deeds = sym (deeds_of_none d h);
+      total = sym (total_of_none d h);
+      area = λ a. sym (area_of_none a d h);
+    }

@@ -1,10 +1,14 @@
+pub mod Part
 pub mod Facts
 pub mod FactsLaws
 pub mod View
+pub mod Keys
 pub mod Tables
+pub mod Sound
+pub mod Parts
 pub mod Consistent
 pub mod Changes
 pub mod Same
 pub mod SpotLaws
-pub mod CountLaws
+pub mod SoundLaws
 pub mod ConsistentLaws

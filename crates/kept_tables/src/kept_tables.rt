@@ -1,40 +1,41 @@
 //! The lines, the pending orders and the board of a centre.
 
-ghost use Rattle.std.specs.Prelude.{◌≡◌, ◌<◌, ◌≤◌, ◌+◌, ℕ, List, true, if◌then◌else◌, nat_eq, OnOk, map};
+ghost use Rattle.std.specs.Prelude.{◌≡◌, ◌≤◌, ◌+◌, ℕ, List, true, if◌then◌else◌, OnOk, map};
+ghost use Rattle.std.specs.Option.{option_copied};
 ghost use Rattle.common.specs.declared.cell.Cell.{Cell};
 ghost use Rattle.coverage_board.specs.Board.{area_of, total_of};
-ghost use Rattle.coverage_board.specs.Numbers.{moved, Holds, HasRoom};
-ghost use Rattle.coverage_board.specs.Parts.{total_part, area_part};
-ghost use Rattle.coverage_board.specs.Reading.{stand_of};
-ghost use Rattle.kept_tables.specs.Consistent.{is_in_range};
-ghost use Rattle.kept_tables.specs.View.{spot_of};
-ghost use Rattle.mirror.specs.Seen.{seen};
+ghost use Rattle.coverage_board.specs.Numbers.{Holds};
+ghost use Rattle.kept_tables.specs.Part.{area_of_part, or_none};
+ghost use Rattle.kept_tables.specs.Sound.{IsMoved};
 ghost use Rattle.mirror.specs.Table.{is_key, line_at};
-ghost use Rattle.order_maker.specs.Actions.{deeds, in_cell};
-ghost use Rattle.order_maker.specs.Pending.{Shifts, holds, is_listed};
+ghost use Rattle.order_maker.specs.Actions.{in_cell};
+ghost use Rattle.order_maker.specs.Pending.{holds, is_listed};
 ghost use Rattle.order_maker.specs.declared.action.Action.{Action};
 
 use crate::line_facts::LineFacts;
+use crate::share::{Share, deeds_of, part_of};
+use crate::shares::{Counted, Shares};
 use crate::stays::Stays;
 use crate::step::Step;
 use cbsp_ie::CellId;
 use cell_register::{BscId, Register};
 use common::{Cell, Cells, Name};
 use coverage_board::{Board, Numbers, Stand};
-use mirror::{Line, LineKey, LineTable, Sight};
+use mirror::{Line, LineKey, LineTable};
 use order_maker::{Order, Orders, Pending};
 use serials::Serial;
 use std::alloc::{AllocError, Global};
 use std::marker::Model;
 use warning_book::{Kind, WarningId};
 
-/// What is kept of every line, what is pending for each BSC, and the numbers of the board. All three change in step, by
-/// `make` and `take_step` alone. Which cells are down for warnings of each kind is kept beside the lines, and
+/// What is kept of every line, what each was counted as, what is pending for each BSC, and the numbers of the board. All change
+/// in step, by `make` and `take_step` alone. Which cells are down for warnings of each kind is kept beside the lines, and
 /// changes by `set_down` alone.
 pub struct KeptTables {
     lines: LineTable,
     pending: Pending,
     board: Board,
+    shares: Shares,
 }
 
 /// Written out, so that no crate above proves anew how its parts are dropped.
@@ -44,6 +45,7 @@ impl Drop for KeptTables {
             lines: _lines,
             pending: _pending,
             board: _board,
+            shares: _shares,
         } = self;
     }
 }
@@ -53,15 +55,7 @@ impl Model for KeptTables {
 
     ghost Value = { Tables };
 
-    ghost view = { λ t. record { lines = t.lines; pending = t.pending; board = t.board } };
-}
-
-/// A lemma, not a test: it returns nothing, and its clause says that the numbers of a line's BSC, location area and cell
-/// fit 16 bits.
-fn tell_range(key: LineKey)
-    ensures { is_in_range (spot_of key) ≡ true }
-{
-    let _ = key;
+    ghost view = { λ t. record { lines = t.lines; pending = t.pending; board = t.board; shares = t.shares } };
 }
 
 /// Whether the line is the same after as before. It is not compared where it is known to stay.
@@ -95,59 +89,44 @@ fn change_line(
     lines.set_line(key, *after)
 }
 
-/// Changes what is pending for a line of the BSC and the cell. The line itself may be known to stay.
-fn shift_orders(
+/// Takes out of what is pending and counted what the line was counted as, and puts in what it is counted as. The areas may be
+/// known to be the same. At an `Err` what is pending and counted is of no use any more.
+#[inline(always)]
+fn exchange(
     pending: &mut Pending,
-    b: BscId,
-    c: Cell,
-    before: &Sight<'_>,
-    after: &Sight<'_>,
-    stays: bool,
-) -> Result<(), AllocError>
-    requires there { (a : Action) → is_listed a (map (in_cell c) (deeds (seen before.now))) ≡ true → holds pending.old b a ≡ true }
-    requires stays { stays ≡ true → before.now.line ≡ after.now.line }
-    ensures { OnOk result (Shifts pending.old pending.new b (map (in_cell c) (deeds (seen before.now))) (map (in_cell c) (deeds (seen after.now)))) }
-{
-    if stays {
-        return pending.shift_wanted(b, c, before, after);
-    }
-    pending.shift_held(b, c, before, after)
-}
-
-/// Moves the numbers of the warning from how the line stood to how it stands. The areas that cover the cell may be known to
-/// stay.
-fn shift_numbers(
     board: &mut Board,
-    w: WarningId,
-    was: &Stand<'_>,
-    is: &Stand<'_>,
+    key: &LineKey,
+    was: Option<&Share>,
+    is: Option<&Share>,
     stays: bool,
 ) -> Result<(), AllocError>
-    requires areas { stays ≡ true → (stand_of was.now).areas ≡ (stand_of is.now).areas }
-    requires total_there { Holds (total_of board.old w) (total_part (stand_of was.now)) }
-    requires total_room { HasRoom (total_of board.old w) (total_part (stand_of was.now)) (total_part (stand_of is.now)) }
-    requires area_there { (a : List ℕ) → Holds (area_of board.old w a) (area_part a (stand_of was.now)) }
-    requires area_room { (a : List ℕ) → HasRoom (area_of board.old w a) (area_part a (stand_of was.now)) (area_part a (stand_of is.now)) }
-    ensures total { OnOk result ((v : ℕ) → total_of board.new v ≡ (if nat_eq w v then moved (total_of board.old v) (total_part (stand_of was.now)) (total_part (stand_of is.now)) else total_of board.old v)) }
-    ensures area { OnOk result ((v : ℕ) (a : List ℕ) → area_of board.new v a ≡ (if nat_eq w v then moved (area_of board.old v a) (area_part a (stand_of was.now)) (area_part a (stand_of is.now)) else area_of board.old v a)) }
+    requires acts_there { (a : Action) → is_listed a (map (in_cell key.now.cell) (or_none (option_copied was)).deeds) ≡ true → holds pending.old key.now.bsc a ≡ true }
+    requires total_there { Holds (total_of board.old key.now.warning) (or_none (option_copied was)).total }
+    requires area_there { (a : List ℕ) → Holds (area_of board.old key.now.warning a) (area_of_part a (or_none (option_copied was))) }
+    requires areas { stays ≡ true → (or_none (option_copied was)).areas ≡ (or_none (option_copied is)).areas }
+    ensures { OnOk result (IsMoved key.now (or_none (option_copied was.entry)) (or_none (option_copied is.entry)) pending.old board.old pending.new board.new) }
 {
-    if stays {
-        return board.shift_standing(w, was, is);
-    }
-    board.shift(w, was, is)
+    let LineKey { bsc, cell, warning } = *key;
+    pending.exchange(bsc, cell, &deeds_of(was), &deeds_of(is))?;
+    board.exchange(warning, &part_of(was), &part_of(is), stays)
 }
 
 impl KeptTables {
-    ghost use Rattle.std.specs.Prelude.{◌≡◌, ◌≤◌, ◌+◌, ◌++◌, ◌∷◌, [], ◌&&◌, ℕ, List, true, false, not, if◌then◌else◌, length, ltb, map, nat_eq, take, OnOk, OnErr, IfOk};
+    ghost use Rattle.std.specs.Prelude.{◌≡◌, ◌≤◌, ◌<◌, ◌^◌, ◌+◌, ◌++◌, ◌∷◌, [], ◌&&◌, ℕ, List, true, false, not, if◌then◌else◌, length, ltb, map, nat_eq, take, OnOk, OnErr, IfOk};
     ghost use Rattle.std.specs.List.{list_any};
     ghost use Rattle.std.specs.Option.{is_some};
     ghost use Rattle.common.specs.Cell.{cell_eq, cell_lt};
     ghost use Rattle.common.specs.Order.{is_ascending};
     ghost use Rattle.common.specs.declared.cell.Cell.{Cell};
     ghost use Rattle.coverage_board.specs.Board.{total_of, area_of};
+    ghost use Rattle.coverage_board.specs.Parts.{total_part};
+    ghost use Rattle.coverage_board.specs.Reading.{stand_of};
     ghost use Rattle.kept_tables.specs.Changes.{Begins, IsNext, change_of, mixed};
     ghost use Rattle.kept_tables.specs.Consistent.{Consistent};
-    ghost use Rattle.kept_tables.specs.Tables.{HasPart, IsEmpty, SameTables, Shifted};
+    ghost use Rattle.kept_tables.specs.Part.{Part};
+    ghost use Rattle.kept_tables.specs.Parts.{IsCounted, IsPartOf};
+    ghost use Rattle.kept_tables.specs.Sound.{Apart, IsSound};
+    ghost use Rattle.kept_tables.specs.Tables.{IsEmpty, SameTables};
     ghost use Rattle.mirror.specs.Blank.{is_blank};
     ghost use Rattle.mirror.specs.Held.{is_held_line};
     ghost use Rattle.mirror.specs.Index.{key_before};
@@ -170,6 +149,7 @@ impl KeptTables {
             lines: LineTable::new(alloc),
             pending: Pending::new(alloc),
             board: Board::new(alloc),
+            shares: Shares::new(alloc),
         }
     }
 
@@ -183,6 +163,7 @@ impl KeptTables {
         Ok(KeptTables {
             pending: self.pending.copied()?,
             board: self.board.copied()?,
+            shares: self.shares.copied()?,
             lines: self.lines.copied()?,
         })
     }
@@ -390,64 +371,31 @@ impl KeptTables {
         self.board.area(w, a)
     }
 
-    /// Changes one line: what is kept of it, what is pending for it, and what it adds to the numbers. It isn't set where it is
-    /// known to stay, nor are names compared where the areas are. At an `Err` the tables are of no use any more.
-    fn change(
-        &mut self,
-        key: LineKey,
-        before: &LineFacts<'_>,
-        after: &LineFacts<'_>,
-        stays: Stays,
-    ) -> Result<(), AllocError>
-        requires part { HasPart self.old key before.now after.now }
-        requires line { stays.line ≡ true → before.now.line ≡ after.now.line }
-        requires areas { stays.areas ≡ true → before.now.areas ≡ after.now.areas }
-        ensures changed { OnOk result (Shifted self.old self.new key before.now after.now) }
-        ensures downs { self.new.lines.downs ≡ self.old.lines.downs }
-        ensures meter { self.new.lines.meter ≤ self.old.lines.meter + 1 }
-        ensures least { self.old.lines.meter ≤ self.new.lines.meter }
+    /// Counts the line as what a line adds that stands so, in place of what it was counted as. At an `Err` the tables are of no
+    /// use any more.
+    fn recount(&mut self, key: &LineKey, stand: &Stand<'_>) -> Result<(), AllocError>
+        requires few { length stand.now.sight.versions.now ≤ 16 }
+        requires fits { (total_part (stand_of stand.now)).broadcasts < 2 ^ 32 }
+        requires sound { IsSound self.old }
+        requires apart { (p : Part) → IsPartOf p (stand_of stand.now) → Apart self.old key.now p }
+        ensures counted { OnOk result (IsCounted self.old self.new key.now (stand_of stand.now)) }
+        ensures lines { self.new.lines ≡ self.old.lines }
     {
-        let LineKey { bsc, cell, warning } = key;
-        change_line(&mut self.lines, key, &before.line, &after.line, stays.line)?;
-        let was = before.stand();
-        let is = after.stand();
-        shift_orders(
+        let Counted { share, stays } = self.shares.count(key, stand)?;
+        let was = self.shares.of(key);
+        exchange(
             &mut self.pending,
-            bsc,
-            cell,
-            &was.sight,
-            &is.sight,
-            stays.line,
+            &mut self.board,
+            key,
+            was,
+            share.as_ref(),
+            stays,
         )?;
-        shift_numbers(&mut self.board, warning, &was, &is, stays.areas)
+        self.shares.enter(key, share)
     }
 
-    /// The same for a step: of what is read of the line, the line itself and whether its cell is down may be another.
-    #[inline(always)]
-    fn change_standing(&mut self, step: &Step<'_>) -> Result<(), AllocError>
-        requires { HasPart self.old step.now.key step.now.before (change_of step.now).after }
-        ensures changed { OnOk result (Shifted self.old self.new step.now.key step.now.before (change_of step.now).after) }
-        ensures downs { self.new.lines.downs ≡ self.old.lines.downs }
-        ensures meter { self.new.lines.meter ≤ self.old.lines.meter + 1 }
-        ensures least { self.old.lines.meter ≤ self.new.lines.meter }
-    {
-        let LineKey { bsc, cell, warning } = step.key;
-        change_line(
-            &mut self.lines,
-            step.key,
-            &step.before.line,
-            &step.line,
-            false,
-        )?;
-        let was = step.before.stand();
-        let then = step.before.stand_with(step.line, step.down);
-        self.pending
-            .shift_states(bsc, cell, &was.sight, &then.sight)?;
-        self.board.shift_standing(warning, &was, &then)
-    }
-
-    /// Makes the change that is next. The line is neither read nor set where the caller knows that it stays, and no names of
-    /// areas are compared where these stay. At an `Err` memory ran out, and the tables are of no use any more.
+    /// Makes the change that is next: the line is kept as it is read then, and counted as that. It isn't set where the caller knows
+    /// that it stays. At an `Err` memory ran out, and the tables are of no use any more.
     pub fn make(
         &mut self,
         key: &LineKey,
@@ -463,9 +411,9 @@ impl KeptTables {
         ensures meter { self.new.lines.meter ≤ self.old.lines.meter + 1 }
         ensures least { self.old.lines.meter ≤ self.new.lines.meter }
     {
-        tell_range(*key);
         after.line.tell_counts();
-        self.change(*key, before, after, stays)
+        change_line(&mut self.lines, *key, &before.line, &after.line, stays.line)?;
+        self.recount(key, &after.stand())
     }
 
     /// Takes the step that is next. At an `Err` memory ran out, and the tables are of no use any more.
@@ -477,8 +425,14 @@ impl KeptTables {
         ensures meter { self.new.lines.meter ≤ self.old.lines.meter + 1 }
         ensures least { self.old.lines.meter ≤ self.new.lines.meter }
     {
-        tell_range(step.key);
         step.line.tell_counts();
-        self.change_standing(step)
+        change_line(
+            &mut self.lines,
+            step.key,
+            &step.before.line,
+            &step.line,
+            false,
+        )?;
+        self.recount(&step.key, &step.before.stand_with(step.line, step.down))
     }
 }
