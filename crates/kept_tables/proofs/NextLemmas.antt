@@ -85,7 +85,7 @@ pub next_apart : (old : Tables) (changes : List Change) (b : Begins old changes)
 next_apart old changes b t done x later split is p part =
     let next = next_tells b.from b.to changes done x later split b.tells in
     let owned = owned_mixed b.owner b.from b.to done b.owns_from b.owns_to in
-    apart_of t x.key p b.owner (λ q d h. owned.owns q d (ap (is_deed d) (sym (is.shares.each q).deeds) ∙ h)) (λ d h. b.owns_to.owns x.key d (ap (is_deed d) (sym part.deeds ∙ ap deeds_of (sym next.1.1)) ∙ h))
+    apart_of t x.key p b.owner (λ q d h. owned.owns q d (ap (is_deed d) (sym (is.shares.each q).deeds) ∙ h)) (λ d h. b.owns_to.owns x.key d (ap (is_deed d) (ap deeds_of next.1.1 ∙ sym part.deeds) ∙ h))
 
 -- each line was counted as what is read of it, once one more is
 parts_then : (t u : Tables) (v : View) (k : LineKey) (f : LineFacts) → AreParts t v → IsCounted t u k (stand_of f) → AreParts u (updated v k f)

@@ -381,8 +381,12 @@ impl KeptTables {
         ensures counted { OnOk result (IsCounted self.old self.new key.now (stand_of stand.now)) }
         ensures lines { self.new.lines ≡ self.old.lines }
     {
-        let Counted { share, stays } = self.shares.count(key, stand)?;
-        let was = self.shares.of(key);
+        let Counted {
+            share,
+            found,
+            stays,
+        } = self.shares.count(key, stand)?;
+        let was = self.shares.of_found(key, found);
         exchange(
             &mut self.pending,
             &mut self.board,

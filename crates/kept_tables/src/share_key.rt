@@ -45,8 +45,8 @@ impl Clone for ShareKey {
 
 impl ShareKey {
     #[inline(always)]
-    pub(crate) fn of(key: &LineKey) -> ShareKey
-        ensures { result ≡ key.now }
+    pub(crate) fn of(key: LineKey) -> ShareKey
+        ensures { result ≡ key }
     {
         let warning = u64::from(key.warning.number()) * WARNING;
         let area = u32::from(key.cell.lac) * AREA;

@@ -1,5 +1,5 @@
 use Rattle.std.proofs.Common.{◌≡◌, rules}
-use Rattle.kept_tables.proofs.ViewLemmas.{line_same}
+use Rattle.kept_tables.proofs.NextLemmas.{line_same}
 use Rattle.kept_tables.proofs.kept_tables.change_line.Goals as goal
 
 pub returns-then-is_kept-clause-set : goal.returns-then-is_kept-clause-set
