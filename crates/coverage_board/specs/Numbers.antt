@@ -1,5 +1,5 @@
 -- The numbers of a board, and what a change of one line makes of them.
-use Rattle.std.specs.Prelude.{◌+◌, ◌-◌, ◌^◌, ◌<◌, ◌≤◌}
+use Rattle.std.specs.Prelude.{◌+◌, ◌-◌, ◌≤◌}
 use Rattle.coverage_board.specs.declared.numbers.Numbers.{Numbers}
 
 -- nothing is counted
@@ -25,15 +25,3 @@ pub record Holds (n p : Numbers) : Type 0 where
   pub failed : p.failed ≤ n.failed
   pub left : p.left ≤ n.left
   pub broadcasts : p.broadcasts ≤ n.broadcasts
-
--- the numbers with p added fit 64 bits
-pub record FitsWith (n p : Numbers) : Type 0 where
-  pub awaited : n.awaited + p.awaited < 2 ^ 64
-  pub on_air : n.on_air + p.on_air < 2 ^ 64
-  pub failed : n.failed + p.failed < 2 ^ 64
-  pub left : n.left + p.left < 2 ^ 64
-  pub broadcasts : n.broadcasts + p.broadcasts < 2 ^ 64
-
--- the numbers after a line that gave p gives q fit 64 bits
-abbrev pub HasRoom : Numbers → Numbers → Numbers → Type 0
-HasRoom n p q = FitsWith (less n p) q

@@ -3,14 +3,12 @@
 ghost use Rattle.std.specs.Prelude.{◌≡◌, ℕ, List, true, nat_eq, if◌then◌else◌, slice_get, IfSome, IfNone, OnOk};
 ghost use Rattle.std.specs.Map.{lookup};
 ghost use Rattle.coverage_board.specs.Board.{row_of, total_of, area_of, KeepsNoZeroRow};
-ghost use Rattle.coverage_board.specs.Numbers.{moved, Holds, HasRoom};
-ghost use Rattle.coverage_board.specs.Parts.{total_part, area_part, part_in};
-ghost use Rattle.coverage_board.specs.Reading.{stand_of};
+ghost use Rattle.coverage_board.specs.Numbers.{moved, Holds};
+ghost use Rattle.coverage_board.specs.Parts.{part_in};
 
 use crate::line_part::LinePart;
 use crate::numbers::Numbers;
 use crate::row::Row;
-use crate::stand::Stand;
 use common::Name;
 use indexmap::IndexMap;
 use std::alloc::{AllocError, Global};
@@ -18,7 +16,7 @@ use std::marker::Model;
 use warning_book::WarningId;
 
 /// The numbers of each warning, and of each warning and area. A board follows its lines: it knows none of them, and is
-/// told how a line stood before it changed and how it stands after. It keeps nothing of a warning for which nothing is counted,
+/// told what a line added before it changed and what it adds after. It keeps nothing of a warning for which nothing is counted,
 /// such as one that was forgotten.
 pub struct Board {
     alloc: Global,
@@ -65,36 +63,6 @@ fn place_of(rows: &IndexMap<u32, Row>, last: usize, number: u32) -> Option<usize
     }
 }
 
-/// Moves the numbers in the row of that number, which stands at that place. Where it counts nothing then, it is taken out, which
-/// takes no memory. The areas that cover the cell may be known to stay.
-#[inline(always)]
-fn shift_at(
-    rows: &mut IndexMap<u32, Row>,
-    place: usize,
-    number: u32,
-    before: &Stand<'_>,
-    after: &Stand<'_>,
-    stays: bool,
-) -> Result<(), AllocError>
-    requires at { slice_get rows.old.entries place ≡ Some (number, row_of rows.old.entries number) }
-    requires areas { stays ≡ true → (stand_of before.now).areas ≡ (stand_of after.now).areas }
-    requires total_there { Holds (total_of rows.old.entries number) (total_part (stand_of before.now)) }
-    requires total_room { HasRoom (total_of rows.old.entries number) (total_part (stand_of before.now)) (total_part (stand_of after.now)) }
-    requires area_there { (a : List ℕ) → Holds (area_of rows.old.entries number a) (area_part a (stand_of before.now)) }
-    requires area_room { (a : List ℕ) → HasRoom (area_of rows.old.entries number a) (area_part a (stand_of before.now)) (area_part a (stand_of after.now)) }
-    ensures total { OnOk result ((v : ℕ) → total_of rows.new.entries v ≡ (if nat_eq number v then moved (total_of rows.old.entries v) (total_part (stand_of before.now)) (total_part (stand_of after.now)) else total_of rows.old.entries v)) }
-    ensures area { OnOk result ((v : ℕ) (a : List ℕ) → area_of rows.new.entries v a ≡ (if nat_eq number v then moved (area_of rows.old.entries v a) (area_part a (stand_of before.now)) (area_part a (stand_of after.now)) else area_of rows.old.entries v a)) }
-    ensures rows { KeepsNoZeroRow rows.old.entries → KeepsNoZeroRow rows.new.entries }
-{
-    let (_, row) = rows.pair_mut(place);
-    let done = row.shift_either(before, after, stays);
-    if !row.counts_nothing() {
-        return done;
-    }
-    drop(rows.swap_remove(&number));
-    done
-}
-
 /// Takes out of the row of that number, which stands at that place, what a line added, and adds what it adds. Where it counts
 /// nothing then, it is taken out, which takes no memory. The areas may be known to be the same.
 #[inline(always)]
@@ -126,10 +94,8 @@ fn exchange_at(
 impl Board {
     ghost use Rattle.std.specs.Prelude.{◌≡◌, ℕ, List, nat_eq, if◌then◌else◌, IfOk, OnOk};
     ghost use Rattle.coverage_board.specs.Board.{total_of, area_of, KeepsNoZeroRow};
-    ghost use Rattle.coverage_board.specs.Numbers.{zero_numbers, moved, Holds, HasRoom};
-    ghost use Rattle.coverage_board.specs.Parts.{total_part, area_part, part_in};
-    ghost use Rattle.coverage_board.specs.Reading.{stand_of};
-
+    ghost use Rattle.coverage_board.specs.Numbers.{zero_numbers, moved, Holds};
+    ghost use Rattle.coverage_board.specs.Parts.{part_in};
     /// The same, in memory of its own.
     pub fn copied(&self) -> Result<Board, AllocError>
         ensures { IfOk result (λ copy. copy ≡ self.now) }
@@ -179,79 +145,6 @@ impl Board {
             Some(row) => row.area(a),
             None => Numbers::zero(),
         }
-    }
-
-    /// Moves the numbers of the warning from what one line added as it was to what it adds as it is. At an `Err` memory
-    /// ran out, and what the board then holds is not said: it is not to be used any more.
-    #[inline(always)]
-    pub fn shift(
-        &mut self,
-        w: WarningId,
-        before: &Stand<'_>,
-        after: &Stand<'_>,
-    ) -> Result<(), AllocError>
-        requires total_there { Holds (total_of self.old w) (total_part (stand_of before.now)) }
-        requires total_room { HasRoom (total_of self.old w) (total_part (stand_of before.now)) (total_part (stand_of after.now)) }
-        requires area_there { (a : List ℕ) → Holds (area_of self.old w a) (area_part a (stand_of before.now)) }
-        requires area_room { (a : List ℕ) → HasRoom (area_of self.old w a) (area_part a (stand_of before.now)) (area_part a (stand_of after.now)) }
-        ensures total { OnOk result ((v : ℕ) → total_of self.new v ≡ (if nat_eq w v then moved (total_of self.old v) (total_part (stand_of before.now)) (total_part (stand_of after.now)) else total_of self.old v)) }
-        ensures area { OnOk result ((v : ℕ) (a : List ℕ) → area_of self.new v a ≡ (if nat_eq w v then moved (area_of self.old v a) (area_part a (stand_of before.now)) (area_part a (stand_of after.now)) else area_of self.old v a)) }
-    {
-        let number = w.number();
-        if let Some(place) = place_of(&self.rows, self.last, number) {
-            self.last = place;
-            return shift_at(&mut self.rows, place, number, before, after, false);
-        }
-        self.add_row(w, before, after)
-    }
-
-    /// The same for a warning that has no row yet. It is called seldom, and isn't inlined, so that its caller stays short.
-    #[inline(never)]
-    fn add_row(
-        &mut self,
-        w: WarningId,
-        before: &Stand<'_>,
-        after: &Stand<'_>,
-    ) -> Result<(), AllocError>
-        requires none { lookup (nat_eq w) self.old ≡ None }
-        requires total_there { Holds (total_of self.old w) (total_part (stand_of before.now)) }
-        requires total_room { HasRoom (total_of self.old w) (total_part (stand_of before.now)) (total_part (stand_of after.now)) }
-        requires area_there { (a : List ℕ) → Holds (area_of self.old w a) (area_part a (stand_of before.now)) }
-        requires area_room { (a : List ℕ) → HasRoom (area_of self.old w a) (area_part a (stand_of before.now)) (area_part a (stand_of after.now)) }
-        ensures total { OnOk result ((v : ℕ) → total_of self.new v ≡ (if nat_eq w v then moved (total_of self.old v) (total_part (stand_of before.now)) (total_part (stand_of after.now)) else total_of self.old v)) }
-        ensures area { OnOk result ((v : ℕ) (a : List ℕ) → area_of self.new v a ≡ (if nat_eq w v then moved (area_of self.old v a) (area_part a (stand_of before.now)) (area_part a (stand_of after.now)) else area_of self.old v a)) }
-    {
-        let mut row = Row::new(self.alloc);
-        row.shift(before, after)?;
-        if row.counts_nothing() {
-            return Ok(());
-        }
-        self.rows.insert(w.number(), row)?;
-        Ok(())
-    }
-
-    /// The same for a line that the same areas cover before and after, so that their names need not be compared.
-    #[inline(always)]
-    pub fn shift_standing(
-        &mut self,
-        w: WarningId,
-        before: &Stand<'_>,
-        after: &Stand<'_>,
-    ) -> Result<(), AllocError>
-        requires areas { (stand_of before.now).areas ≡ (stand_of after.now).areas }
-        requires total_there { Holds (total_of self.old w) (total_part (stand_of before.now)) }
-        requires total_room { HasRoom (total_of self.old w) (total_part (stand_of before.now)) (total_part (stand_of after.now)) }
-        requires area_there { (a : List ℕ) → Holds (area_of self.old w a) (area_part a (stand_of before.now)) }
-        requires area_room { (a : List ℕ) → HasRoom (area_of self.old w a) (area_part a (stand_of before.now)) (area_part a (stand_of after.now)) }
-        ensures total { OnOk result ((v : ℕ) → total_of self.new v ≡ (if nat_eq w v then moved (total_of self.old v) (total_part (stand_of before.now)) (total_part (stand_of after.now)) else total_of self.old v)) }
-        ensures area { OnOk result ((v : ℕ) (a : List ℕ) → area_of self.new v a ≡ (if nat_eq w v then moved (area_of self.old v a) (area_part a (stand_of before.now)) (area_part a (stand_of after.now)) else area_of self.old v a)) }
-    {
-        let number = w.number();
-        if let Some(place) = place_of(&self.rows, self.last, number) {
-            self.last = place;
-            return shift_at(&mut self.rows, place, number, before, after, true);
-        }
-        self.shift(w, before, after)
     }
 
     /// Takes out of the numbers of the warning what one line of it added, and adds what it adds. The areas may be known to be the

@@ -1,7 +1,7 @@
 //! The numbers of a board.
 
 ghost use Rattle.std.specs.Prelude.{◌≡◌, ◌↔◌, ◌+◌, IsTrue, IfOk};
-ghost use Rattle.coverage_board.specs.Numbers.{zero_numbers, less, added, Holds, FitsWith};
+ghost use Rattle.coverage_board.specs.Numbers.{zero_numbers, less, added, Holds};
 ghost use Rattle.coverage_board.specs.Parts.{without_left};
 
 use std::alloc::AllocError;
@@ -72,20 +72,6 @@ impl Numbers {
             failed: self.failed - part.failed,
             left: self.left - part.left,
             broadcasts: self.broadcasts - part.broadcasts,
-        }
-    }
-
-    /// The numbers with a part more.
-    pub(crate) fn added(self, part: Numbers) -> Numbers
-        requires { FitsWith self part }
-        ensures { result ≡ added self part }
-    {
-        Numbers {
-            awaited: self.awaited + part.awaited,
-            on_air: self.on_air + part.on_air,
-            failed: self.failed + part.failed,
-            left: self.left + part.left,
-            broadcasts: self.broadcasts + part.broadcasts,
         }
     }
 

@@ -1,15 +1,13 @@
 //! What one line adds to the numbers.
 
-ghost use Rattle.std.specs.Prelude.{◌≡◌, ◌<◌, ◌^◌, if◌then◌else◌, ◌&&◌};
-ghost use Rattle.common.specs.Sums.{one, sum_of};
-ghost use Rattle.coverage_board.specs.Parts.{has_areas, broadcast_count, total_part};
+ghost use Rattle.std.specs.Prelude.{◌≡◌, ◌<◌, ◌^◌};
+ghost use Rattle.common.specs.Sums.{one};
+ghost use Rattle.coverage_board.specs.Parts.{broadcast_count};
 ghost use Rattle.coverage_board.specs.Reading.{stand_of};
 ghost use Rattle.coverage_board.specs.Standings.{is_left};
 
-use crate::numbers::Numbers;
 use crate::stand::Stand;
-use crate::standing::{is_unwanted, is_way, standing};
-use crate::way::Way;
+use crate::standing::is_unwanted;
 
 /// 1 where it holds, else 0.
 pub(crate) fn one(holds: bool) -> u64
@@ -44,22 +42,4 @@ pub(crate) fn part_of_versions(stand: &Stand<'_>) -> VersionsPart
         }
     }
     VersionsPart { left, broadcasts }
-}
-
-/// The line's part in the numbers of its warning.
-#[inline(always)]
-pub(crate) fn total_part(stand: &Stand<'_>) -> Numbers
-    requires { (total_part (stand_of stand.now)).broadcasts < 2 ^ 64 }
-    ensures { result ≡ total_part (stand_of stand.now) }
-{
-    let VersionsPart { left, broadcasts } = part_of_versions(stand);
-    let is_counted = stand.here && stand.areas.is_some();
-    let stands = standing(&stand.sight);
-    Numbers {
-        awaited: one(is_way(Way::Awaited, stands)),
-        on_air: one(is_way(Way::OnAir, stands)),
-        failed: one(is_way(Way::Failed, stands)),
-        left: one(left),
-        broadcasts: if is_counted { broadcasts } else { 0 },
-    }
 }

@@ -7,5 +7,3 @@ pub mod CellLemmas
 pub mod ShiftLemmas
 pub mod DigitsLemmas
 pub mod ExchangeLemmas
-pub mod KillLemmas
-pub mod AlikeLemmas

@@ -1,6 +1,5 @@
 pub mod Actions
 pub mod DeedSets
-pub mod Alike
 pub mod Grouping
 pub mod GroupingLaws
 pub mod OrderingLaws

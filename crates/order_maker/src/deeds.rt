@@ -1,9 +1,8 @@
 //! What is to be ordered on one line: for a BSC, a cell and a warning.
 
-ghost use Rattle.std.specs.Prelude.{◌≡◌, ◌↔◌, ◌≤◌, ◌++◌, ◌∷◌, [], length, take, IfOk, OnOk, IsTrue, if◌then◌else◌};
+ghost use Rattle.std.specs.Prelude.{◌≡◌, ◌↔◌, ◌++◌, IfOk, OnOk, IsTrue};
 ghost use Rattle.mirror.specs.Seen.{is_the, seen};
 ghost use Rattle.order_maker.specs.Actions.{needs, is_replaceable, newest, replaced, replaced_for, fresh_kind, deed, fresh, is_to_kill, is_written, kills, deeds, fresh_deed};
-ghost use Rattle.order_maker.specs.Alike.{AreAlike, IsSamePlan, IsWantedAlike};
 
 use crate::deed::Deed;
 use crate::order_kind::OrderKind;
@@ -153,13 +152,6 @@ impl<'a> ReplacingSight<'a> {
             && !is_the(self.sight.wanted, serial)
             && !is_the(self.replaced, serial)
     }
-
-    /// The KILL of the version.
-    pub(crate) fn kill(&self, serial: Serial) -> Deed
-        ensures { result ≡ deed (seen self.now.sight.now) OrderKind.Kill serial }
-    {
-        deed(self.sight, OrderKind::Kill, serial)
-    }
 }
 
 /// Adds the write of the wanted version, where there is one.
@@ -199,77 +191,9 @@ pub fn actions(alloc: Global, sight: &Sight<'_>) -> Result<Vec<Deed>, AllocError
     Ok(out)
 }
 
-/// Whether the two are one deed, or neither is there.
-pub(crate) fn is_same(deed: &Option<Deed>, other: &Option<Deed>) -> bool
-    ensures { IsTrue result ↔ (deed.now ≡ other.now) }
-{
-    *deed == *other
-}
-
-/// Whether the version is as much on air on both lines, and held on both or on neither.
-fn is_alike(before: &Sight<'_>, after: &Sight<'_>, serial: Serial) -> bool
-    ensures presence { IsTrue result → (seen before.now).presence serial ≡ (seen after.now).presence serial }
-    ensures held { IsTrue result → (seen before.now).is_held serial ≡ (seen after.now).is_held serial }
-{
-    before.line.is_alike(&after.line, serial)
-}
-
-/// Whether each of the versions is.
-fn are_alike(before: &Sight<'_>, after: &Sight<'_>, versions: &[Serial]) -> bool
-    ensures { IsTrue result → AreAlike (seen before.now) (seen after.now) versions.now }
-{
-    for serial in versions {
-        if !is_alike(before, after, *serial) {
-            return false;
-        }
-    }
-    true
-}
-
-/// Whether the wanted version is, if one is wanted.
-fn is_wanted_alike(before: &Sight<'_>, after: &Sight<'_>) -> bool
-    ensures { IsTrue result → IsWantedAlike (seen before.now) (seen after.now) before.now.wanted }
-{
-    match before.wanted {
-        Some(serial) => is_alike(before, after, serial),
-        None => true,
-    }
-}
-
 /// Whether both lists have the same versions, in the same order.
 pub(crate) fn are_same(versions: &[Serial], others: &[Serial]) -> bool
     ensures { IsTrue result ↔ (versions.now ≡ others.now) }
 {
     versions == others
-}
-
-/// Whether both lines are of one message and its versions, the same one wanted and the cell up on both or on neither.
-pub(crate) fn has_same_plan(before: &Sight<'_>, after: &Sight<'_>) -> bool
-    ensures message { IsTrue result → before.now.message_id ≡ after.now.message_id }
-    ensures down { IsTrue result → before.now.down ≡ after.now.down }
-    ensures wanted { IsTrue result → before.now.wanted ≡ after.now.wanted }
-    ensures versions { IsTrue result → before.now.versions.now ≡ after.now.versions.now }
-{
-    before.message_id == after.message_id
-        && before.down == after.down
-        && before.wanted == after.wanted
-        && are_same(before.versions, after.versions)
-}
-
-/// Whether no version of two such lines stands otherwise on the one than on the other, so that the same is to be ordered
-/// on both.
-pub(crate) fn has_same_states(before: &Sight<'_>, after: &Sight<'_>) -> bool
-    ensures { IsTrue result → IsSamePlan (seen before.now) (seen after.now) → deeds (seen before.now) ≡ deeds (seen after.now) }
-{
-    is_wanted_alike(before, after) && are_alike(before, after, before.versions)
-}
-
-/// Whether both lines are of one message, and the second has the versions of the first: these first, and then others, if
-/// it has more.
-pub(crate) fn keeps_versions(before: &Sight<'_>, after: &Sight<'_>) -> bool
-    ensures message { IsTrue result → before.now.message_id ≡ after.now.message_id }
-    ensures fewer { IsTrue result → length before.now.versions.now ≤ length after.now.versions.now }
-    ensures first { IsTrue result → take (length before.now.versions.now) after.now.versions.now ≡ before.now.versions.now }
-{
-    before.message_id == after.message_id && after.versions.starts_with(before.versions)
 }

@@ -7,7 +7,7 @@ use crate::values::{bsc, yes};
 use cell_register::BscId;
 use common::Cell;
 use mirror::{Line, Sight};
-use order_maker::{Deed, Order, OrderKind, Pending, actions};
+use order_maker::{Deed, DeedSet, LineDeeds, Order, OrderKind, Pending, actions};
 use serials::Serial;
 use std::alloc::Global;
 use std::process::Abort;
@@ -44,10 +44,11 @@ fn sight(versions: &[Serial], wanted: Option<Serial>) -> Sight<'_>
 /// The current version comes to be wanted in the cell.
 fn begin(rt: &impl Abort, pending: &mut Pending, b: BscId, cell: Cell) {
     let versions = versions();
-    let before = sight(&versions, None);
-    let after = sight(&versions, Some(current()));
-    let shifted = pending.shift(b, cell, &before, &after);
-    shifted.expect(rt, "memory");
+    let none = DeedSet::of(LineDeeds::none(), 4370, &versions);
+    let wanted = LineDeeds::of(&sight(&versions, Some(current())));
+    let come = DeedSet::of(wanted, 4370, &versions);
+    let exchanged = pending.exchange(b, cell, &none, &come);
+    exchanged.expect(rt, "memory");
 }
 
 /// The first order that is pending for the BSC.
