@@ -1,8 +1,8 @@
 -- What is held as the deeds of a line are taken out, and others put in.
-use Rattle.std.proofs.Common.{◌≡◌, ℕ, ◌+◌, ◌<◌, ◌/◌, ◌%◌, ◌==◌, Bool, true, false, ◌&&◌, ◌||◌, not, nat_eq, List, [], ◌∷◌, ◌++◌, length, get_or, drop, map, refl, sym, ◌∙◌, ap, if◌then◌else◌}
+use Rattle.std.proofs.Common.{◌≡◌, ℕ, ◌+◌, ◌<◌, ◌/◌, ◌%◌, ◌==◌, Bool, true, false, ◌&&◌, ◌||◌, not, nat_eq, List, [], ◌∷◌, length, get_or, drop, map, refl, sym, ◌∙◌, ap, if◌then◌else◌}
 use Rattle.std.specs.Cmp.{unsigned_Decides}
 use Rattle.common.specs.declared.cell.Cell.{Cell}
-use Rattle.order_maker.proofs.DigitsLemmas.{kills_next, no_kills}
+use Rattle.order_maker.proofs.DigitsLemmas.{kills_next}
 use Rattle.order_maker.proofs.ShiftLemmas.{put_both, taken_both}
 use Rattle.order_maker.specs.Actions.{in_cell}
 use Rattle.order_maker.specs.DeedSets.{kill_of, kills_at}
