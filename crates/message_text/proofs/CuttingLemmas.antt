@@ -6,6 +6,7 @@ use Rattle.std.proofs.lemmas.List.Sums.{sum_by-take-le, sum_by-take-drop}
 use Rattle.std.proofs.Math.Seq.{take-add}
 use Rattle.std.specs.List.{AllByRecursion, flat_map, sum_by}
 use Rattle.message_text.specs.Reading.{followed_by, read_page, read_pages}
+use Rattle.message_text.specs.Measures.{IsCutInto}
 use Rattle.message_text.specs.Texts.{AreCut, HasRoom}
 use Rattle.message_text.specs.Writing.{room, width}
 use Rattle.message_text.specs.declared.coding.Coding.{Coding}
@@ -180,3 +181,27 @@ ucs2_room letters = is_sum_by (length {A = ℕ}) (width Ucs2) refl (λ (c : ℕ)
 pub if_ok_both : {T E : Type 0} (P Q : T → Type 0) (r : Result T E) → ((x : T) → P x → Q x) → IfOk r P → IfOk r Q
 if_ok_both P Q (Ok x) f h = f x h
 if_ok_both P Q (Err e) f h = h
+
+joined_push : (pieces : List (List ℕ)) (piece : List ℕ) → joined (pieces ++ piece ∷ []) ≡ joined pieces ++ piece
+joined_push [] piece = append-nil piece
+joined_push (p ∷ ps) piece = ap (λ l. p ++ l) (joined_push ps piece) ∙ sym (append_assoc p (joined ps) piece)
+
+each_push : (P : List ℕ → Type 0) (pieces : List (List ℕ)) (piece : List ℕ) → AllByRecursion P pieces → P piece → AllByRecursion P (pieces ++ piece ∷ [])
+each_push P [] piece h k = (k, tt)
+each_push P (p ∷ ps) piece h k = (h.0, each_push P ps piece h.1 k)
+
+-- no letters are cut into no pieces
+pub cut_none : (coding : Coding) (letters : List ℕ) → IsCutInto coding (take 0 letters) 0
+cut_none coding letters = record { pieces = []; cut = record { whole = refl; each = tt }; many = refl }
+
+-- one piece more
+pub cut_more : (coding : Coding) (letters : List ℕ) (place count more : ℕ) → IsCutInto coding (take place letters) count
+    → sum_by (width coding) (take more (drop place letters)) ≤ room coding → IsCutInto coding (take (place + more) letters) (count + 1)
+cut_more coding letters place count more before fits = record {
+  pieces = before.pieces ++ take more (drop place letters) ∷ [];
+  cut = record {
+    whole = joined_push before.pieces (take more (drop place letters)) ∙ ap (λ l. l ++ take more (drop place letters)) before.cut.whole ∙ sym (take-add place more letters);
+    each = each_push (λ piece. sum_by (width coding) piece ≤ room coding) before.pieces (take more (drop place letters)) before.cut.each fits;
+  };
+  many = length-append before.pieces (take more (drop place letters) ∷ []) ∙ ap (λ n. n + 1) before.many;
+}

@@ -4,5 +4,6 @@ pub mod LetterLemmas
 pub mod ListLemmas
 pub mod PackingLemmas
 pub mod PageLemmas
+pub mod PlainLemmas
 pub mod ReadingLemmas
 pub mod TextLemmas

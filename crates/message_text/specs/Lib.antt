@@ -1,4 +1,6 @@
 pub mod Alphabet
+pub mod Measures
+pub mod Plain
 pub mod Septets
 pub mod Reading
 pub mod Texts

@@ -15,7 +15,7 @@ use std::alloc::{AllocError, Global};
 const MOST_PAGES: usize = 15;
 
 /// How many letters at the front have room in one page.
-fn fitting(coding: Coding, letters: &[char]) -> usize
+pub(crate) fn fitting(coding: Coding, letters: &[char]) -> usize
     ensures bound { result ≤ length letters.now }
     ensures fits { sum_by (written.width coding) (take result letters.now) ≤ written.room coding }
     ensures most { result < length letters.now → written.room coding < sum_by (written.width coding) (take (result + 1) letters.now) }

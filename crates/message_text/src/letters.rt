@@ -35,7 +35,7 @@ fn letters_fault(letters: &[char]) -> Option<TextFault>
 }
 
 /// The letters of a text in UTF-8.
-fn collected(alloc: Global, text: &str) -> Result<Vec<char>, AllocError>
+pub(crate) fn collected(alloc: Global, text: &str) -> Result<Vec<char>, AllocError>
     ensures { IfOk result (λ letters. letters.items ≡ chars text.now) }
 {
     text.chars().collect(alloc)

@@ -26,6 +26,8 @@ mod kept_line_tests;
 #[cfg(test)]
 mod link_rule_tests;
 #[cfg(test)]
+mod measure_tests;
+#[cfg(test)]
 mod message_tests;
 #[cfg(test)]
 mod query_tests;
