@@ -4,8 +4,8 @@ use Rattle.std.specs.List.{flat_map, list_all}
 use Rattle.std.proofs.lemmas.Fmt.{decimal_by_steps}
 use Rattle.std.proofs.lemmas.Grind.{common_steps}
 use Rattle.std.proofs.lemmas.List.Folds.{list_all-append}
-use Rattle.line_faults.specs.Forms.{bounds_of, is_octet, is_two_octets}
-use Rattle.line_faults.specs.Texts.{IsCounted, IsPrintable, bounds_text, escaped, fault_text, hex_digit, is_printable, is_text, listed, nearest_text, second_text, shown, stray_name, word_text}
+use Rattle.line_faults.specs.Forms.{bounds_of, is_identifier_or_name, is_octet, is_two_octets}
+use Rattle.line_faults.specs.Texts.{IsCounted, IsPrintable, bounds_text, escaped, fault_text, hex_digit, is_printable, is_text, listed, nearest_text, or_name_text, second_text, shown, stray_name, word_text, words_text}
 use Rattle.line_faults.specs.declared.bounds.Bounds.{Bounds}
 use Rattle.line_faults.specs.declared.line_fault.LineFault.{LineFault}
 use Rattle.line_faults.specs.declared.line_fault.LineFault.TheVariants as fault
@@ -136,6 +136,13 @@ word_printable position name word small =
     number_between (codes "word ") (codes ", " ++ (shown name ++ (codes ": '" ++ (shown word ++ codes "'")))) position small refl
     (between (codes ", ") name (codes ": '" ++ (shown word ++ codes "'")) refl (between (codes ": '") word (codes "'") refl refl))
 
+or_name_printable : (name : List ℕ) → IsPrintable (or_name_text name)
+or_name_printable name = either (is_identifier_or_name name) (codes " and no name of one") [] refl refl
+
+words_printable : (name : List ℕ) → IsPrintable (words_text name)
+unfolding words_text
+words_printable name = both (bounds_text (bounds_of name)) (or_name_text name) (bounds_printable name) (or_name_printable name)
+
 -- what is said of each fault
 pub fault_printable : (f : LineFault) → IsCounted f → IsPrintable (fault_text f)
 fault_printable (fault.Stray stray column) small =
@@ -145,8 +152,8 @@ fault_printable (fault.NoSuchWord word nearest) small =
     between (codes "no line begins with '") word (codes "'" ++ nearest_text nearest) refl (both (codes "'") (nearest_text nearest) refl (nearest_printable nearest))
 fault_printable (fault.NoSuchSecond word choices) small = second_printable word choices
 fault_printable (fault.NotNumber position name word) small =
-    both (word_text position name word) (codes " is no number from " ++ bounds_text (bounds_of name)) (word_printable position name word small)
-    (both (codes " is no number from ") (bounds_text (bounds_of name)) refl (bounds_printable name))
+    both (word_text position name word) (codes " is no number from " ++ words_text name) (word_printable position name word small)
+    (both (codes " is no number from ") (words_text name) refl (words_printable name))
 fault_printable (fault.OutOfRange position name word) small =
     both (word_text position name word) (codes " is not " ++ bounds_text (bounds_of name)) (word_printable position name word small)
     (both (codes " is not ") (bounds_text (bounds_of name)) refl (bounds_printable name))

@@ -1,7 +1,7 @@
 -- What is said of a line that is bad. The text is of printable ASCII, whatever was typed.
 use Rattle.std.specs.Prelude.{◌≡◌, ℕ, true, ◌+◌, ◌/◌, ◌%◌, ◌-◌, ◌==◌, nat_le, nat_lt, Bool, false, ◌&&◌, not, List, [], ◌∷◌, ◌++◌, ◌<◌, ◌^◌, length, take, Option, Some, None, bytes_eq, codes, decimal, if◌then◌else◌}
 use Rattle.std.specs.List.{flat_map, list_all}
-use Rattle.line_faults.specs.Forms.{bounds_of}
+use Rattle.line_faults.specs.Forms.{bounds_of, is_identifier_or_name}
 use Rattle.line_faults.specs.declared.bounds.Bounds.{Bounds}
 use Rattle.line_faults.specs.declared.line_fault.LineFault.{LineFault}
 use Rattle.line_faults.specs.declared.line_fault.LineFault.TheVariants as fault
@@ -67,12 +67,20 @@ missing_text names = if is_text names then codes "there is no text" else codes "
 abbrev pub word_text : ℕ → List ℕ → List ℕ → List ℕ
 word_text position name word = codes "word " ++ (decimal position ++ (codes ", " ++ (shown name ++ (codes ": '" ++ (shown word ++ codes "'")))))
 
+-- which words may stand there besides a number
+abbrev pub or_name_text : List ℕ → List ℕ
+or_name_text name = if is_identifier_or_name name then codes " and no name of one" else []
+
+-- what may stand at the place of that name
+unfoldable pub words_text : List ℕ → List ℕ
+words_text name = bounds_text (bounds_of name) ++ or_name_text name
+
 -- what is said of the fault
 abbrev pub fault_text : LineFault → List ℕ
 fault_text (fault.Stray stray column) = stray_name stray ++ (codes " at column " ++ (decimal column ++ codes ": words are separated by spaces"))
 fault_text (fault.NoSuchWord word nearest) = codes "no line begins with '" ++ (shown word ++ (codes "'" ++ nearest_text nearest))
 fault_text (fault.NoSuchSecond word choices) = second_text word choices
-fault_text (fault.NotNumber position name word) = word_text position name word ++ (codes " is no number from " ++ bounds_text (bounds_of name))
+fault_text (fault.NotNumber position name word) = word_text position name word ++ (codes " is no number from " ++ words_text name)
 fault_text (fault.OutOfRange position name word) = word_text position name word ++ (codes " is not " ++ bounds_text (bounds_of name))
 fault_text (fault.Missing names) = missing_text names
 fault_text (fault.TooMany count) = codes "words too many: " ++ decimal count

@@ -1,7 +1,7 @@
 //! The forms of all lines of a server.
 
 ghost use Rattle.std.specs.Prelude.{◌≡◌, ◌++◌, ◌∷◌, [], IfOk, OnOk, map};
-ghost use Rattle.line_faults.specs.Forms.{bounds_of, fits, forms, has_text, is_name, is_octet, is_two_octets};
+ghost use Rattle.line_faults.specs.Forms.{bounds_of, fits, forms, has_text, is_identifier, is_identifier_or_name, is_name, is_octet, is_two_octets};
 ghost use Rattle.std.specs.Option.{is_some};
 ghost use Rattle.console_text.specs.Numbers.{number_in};
 
@@ -10,6 +10,7 @@ use common::{Name, Names};
 use console_text::grammar::read_warning;
 use console_text::word::Word;
 use console_text::words::is_word;
+use server_lines::read_said_identifier;
 use std::alloc::{AllocError, Global};
 
 /// Each form, as the page of formats has it. A word of small letters is typed as it stands, one of capital letters is the name of what
@@ -29,7 +30,7 @@ const FORMS: [&str; 45] = [
     "area cut AREA LAC CI",
     "issue IDENTIFIER SCOPE DCS CATEGORY PERIOD PAGES AREAS",
     "update WARNING DCS CATEGORY PERIOD PAGES",
-    "say IDENTIFIER SCOPE CATEGORY PERIOD AREAS TEXT",
+    "say IDENTIFIER-OR-NAME SCOPE CATEGORY PERIOD AREAS TEXT",
     "resay WARNING CATEGORY PERIOD TEXT",
     "alert IDENTIFIER SCOPE INDICATOR WARNING-TYPE WARNING-PERIOD SECURITY AREAS",
     "realert WARNING INDICATOR WARNING-TYPE WARNING-PERIOD SECURITY",
@@ -105,6 +106,13 @@ fn is_octet(name: &[u8]) -> bool
     is_word(name, b"DCS") || is_word(name, b"INDICATOR") || is_word(name, b"WARNING-PERIOD")
 }
 
+/// Whether a message identifier that may stand by its name has that name.
+pub(crate) fn is_identifier_or_name(name: &[u8]) -> bool
+    ensures { result ≡ is_identifier_or_name name.now }
+{
+    is_word(name, b"IDENTIFIER-OR-NAME")
+}
+
 /// Whether a number of two octets has that name.
 fn is_two_octets(name: &[u8]) -> bool
     ensures { result ≡ is_two_octets name.now }
@@ -112,6 +120,7 @@ fn is_two_octets(name: &[u8]) -> bool
     is_word(name, b"LAC")
         || is_word(name, b"CI")
         || is_word(name, b"IDENTIFIER")
+        || is_identifier_or_name(name)
         || is_word(name, b"PERIOD")
         || is_word(name, b"WARNING-TYPE")
 }
@@ -151,10 +160,20 @@ fn is_within(word: &[u8], bounds: Bounds) -> bool
     }
 }
 
+/// Whether the word is a message identifier by its name or its number.
+fn is_identifier(word: &[u8]) -> bool
+    ensures { result ≡ is_identifier word.now }
+{
+    read_said_identifier(word).is_some()
+}
+
 /// Whether the word may stand at the place of the name.
 pub(crate) fn fits(name: &[u8], word: &[u8]) -> bool
     ensures { result ≡ fits name.now word.now }
 {
+    if is_identifier_or_name(name) {
+        return is_identifier(word);
+    }
     match bounds_of(name) {
         Some(bounds) => is_within(word, bounds),
         None => true,

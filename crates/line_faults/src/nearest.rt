@@ -1,55 +1,14 @@
 //! The word that was meant by one with which no line begins.
 
-ghost use Rattle.std.specs.Prelude.{◌≡◌, ◌≤◌, ◌<◌, IfOk, MatchOption, length, get_or, []};
+ghost use Rattle.std.specs.Prelude.{◌≡◌, ◌<◌, IfOk, MatchOption, length, get_or, []};
 ghost use Rattle.console_text.specs.Words.{words_of};
 ghost use Rattle.line_faults.specs.Faults.{IsNearest, NoneIsNear, first_at};
-ghost use Rattle.line_faults.specs.Nearest.{differ, distance, exchanged, small};
+ghost use Rattle.line_faults.specs.Nearest.{distance};
 
+use crate::nearness::distance;
 use common::{Name, Octets};
 use console_text::words::split_words;
 use std::alloc::{AllocError, Global};
-
-/// The small letter of a capital one.
-fn small(octet: u8) -> u8
-    ensures { result ≡ small octet }
-{
-    if b'A' <= octet && octet <= b'Z' {
-        octet + 32
-    } else {
-        octet
-    }
-}
-
-/// 1 where the letters differ, else 0.
-fn differ(one: u8, other: u8) -> usize
-    ensures value { result ≡ differ one other }
-    ensures most { result ≤ 1 }
-{
-    if small(one) == small(other) { 0 } else { 1 }
-}
-
-/// How many letters differ.
-fn exchanged(word: &[u8], other: &[u8]) -> usize
-    requires { length word.now ≡ length other.now }
-    ensures { result ≡ exchanged word.now other.now }
-{
-    let mut count = 0;
-    for (place, octet) in word.iter().enumerate() {
-        count += differ(*octet, other[place]);
-    }
-    count
-}
-
-/// How far away the other word is: 3 is too far.
-fn distance(word: &[u8], other: &[u8]) -> usize
-    ensures { result ≡ distance word.now other.now }
-{
-    if word.len() != other.len() {
-        return 3;
-    }
-    let count = exchanged(word, other);
-    if count <= word.len() / 2 { count } else { 3 }
-}
 
 /// The first word of a row.
 fn first_word(alloc: Global, row: &Name) -> Result<Octets, AllocError>
@@ -67,7 +26,7 @@ fn distance_to(alloc: Global, word: &[u8], row: &Name) -> Result<usize, AllocErr
     ensures { IfOk result (λ count. count ≡ distance word.now (get_or (words_of row.now) 0 [])) }
 {
     let first = first_word(alloc, row)?;
-    Ok(distance(word, first.as_slice()))
+    distance(alloc, word, first.as_slice())
 }
 
 /// The first row whose first word is nearest, and at most two letters away.

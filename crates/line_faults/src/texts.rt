@@ -1,11 +1,11 @@
 //! What is said of a line that is bad.
 
 ghost use Rattle.std.specs.Prelude.{◌≡◌, ◌++◌, ◌∷◌, [], IfOk, OnOk, codes, decimal, string_bytes};
-ghost use Rattle.line_faults.specs.Texts.{bounds_text, fault_text, is_text, listed, missing_text, nearest_text, second_text, stray_name, word_text};
+ghost use Rattle.line_faults.specs.Texts.{bounds_text, fault_text, is_text, listed, missing_text, nearest_text, or_name_text, second_text, stray_name, word_text, words_text};
 ghost use Rattle.line_faults.specs.Forms.{bounds_of};
 
 use crate::bounds::Bounds;
-use crate::forms::bounds_of;
+use crate::forms::{bounds_of, is_identifier_or_name};
 use crate::line_fault::LineFault;
 use crate::quoting::shown;
 use crate::stray::Stray;
@@ -110,6 +110,27 @@ fn word_text(
     format!(in alloc; "word {position}, {name}: '{word}'")
 }
 
+/// Which words may stand there besides a number.
+fn or_name_text(name: &[u8]) -> &'static str
+    ensures { result.now ≡ or_name_text name.now }
+{
+    if is_identifier_or_name(name) {
+        " and no name of one"
+    } else {
+        ""
+    }
+}
+
+/// What may stand at the place of that name.
+#[tactic(auto, unfolding(crate::specs::Texts::words_text))]
+fn words_text(alloc: Global, name: &[u8]) -> Result<String, AllocError>
+    ensures { IfOk result (λ text. string_bytes text ≡ words_text name.now) }
+{
+    let bounds = bounds_text(alloc, bounds_of(name))?;
+    let or_name = or_name_text(name);
+    format!(in alloc; "{bounds}{or_name}")
+}
+
 fn not_number_text(
     alloc: Global,
     position: usize,
@@ -119,8 +140,8 @@ fn not_number_text(
     ensures { IfOk result (λ text. string_bytes text ≡ fault_text (LineFault.NotNumber position name.now word.now)) }
 {
     let word = word_text(alloc, position, name, word)?;
-    let bounds = bounds_text(alloc, bounds_of(name.as_slice()))?;
-    format!(in alloc; "{word} is no number from {bounds}")
+    let words = words_text(alloc, name.as_slice())?;
+    format!(in alloc; "{word} is no number from {words}")
 }
 
 fn out_of_range_text(

@@ -19,3 +19,4 @@ pub mod text_heading;
 pub mod text_line;
 
 pub use laws::other_words_stand_behind;
+pub use text_grammar::read_said_identifier;

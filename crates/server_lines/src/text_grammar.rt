@@ -71,7 +71,7 @@ fn behind_mark(word: &[u8]) -> Option<&[u8]>
 }
 
 /// M of `say`: a name, a number, or a number behind `!`.
-fn read_said_identifier(word: &[u8]) -> Option<SaidIdentifier>
+pub fn read_said_identifier(word: &[u8]) -> Option<SaidIdentifier>
     ensures { result ≡ said_identifier_of word.now }
 {
     match behind_mark(word) {

@@ -56,7 +56,7 @@ const UNKNOWN: &[Row] = &[
     },
     Row {
         line: b"list",
-        text: "no line begins with 'list'; nearest is wish; help lists all lines",
+        text: "no line begins with 'list'; help lists all lines",
     },
     Row {
         line: b"WARNNIGS",
@@ -64,7 +64,19 @@ const UNKNOWN: &[Row] = &[
     },
     Row {
         line: b"bord 1",
-        text: "no line begins with 'bord'; help lists all lines",
+        text: "no line begins with 'bord'; nearest is board; help lists all lines",
+    },
+    Row {
+        line: b"retyr 1",
+        text: "no line begins with 'retyr'; nearest is retry; help lists all lines",
+    },
+    Row {
+        line: b"stop: 1",
+        text: "no line begins with 'stop:'; nearest is stop; help lists all lines",
+    },
+    Row {
+        line: b"checkpoints",
+        text: "no line begins with 'checkpoints'; nearest is checkpoint; help lists all lines",
     },
     Row {
         line: b"up",
@@ -105,7 +117,31 @@ const NUMBERS: &[Row] = &[
     },
     Row {
         line: b"say 12345678901 3 0 30 Coast Flood",
-        text: "word 2, IDENTIFIER: '12345678901' is not 0 to 65535",
+        text: "word 2, IDENTIFIER-OR-NAME: '12345678901' is not 0 to 65535",
+    },
+    Row {
+        line: b"say 437x 3 0 30 Coast Flood",
+        text: "word 2, IDENTIFIER-OR-NAME: '437x' is no number from 0 to 65535 and no name of one",
+    },
+    Row {
+        line: b"say tset 3 0 30 Coast Flood",
+        text: "word 2, IDENTIFIER-OR-NAME: 'tset' is no number from 0 to 65535 and no name of one",
+    },
+    Row {
+        line: b"say !test 3 0 30 Coast Flood",
+        text: "word 2, IDENTIFIER-OR-NAME: '!test' is no number from 0 to 65535 and no name of one",
+    },
+    Row {
+        line: b"say test 4 0 30 Coast Flood",
+        text: "word 3, SCOPE: '4' is not 0 to 3",
+    },
+    Row {
+        line: b"say !437 3 9 30 Coast Flood",
+        text: "word 4, CATEGORY: '9' is not 0 to 2",
+    },
+    Row {
+        line: b"alert test 1 1 1408 0 - Coast",
+        text: "word 2, IDENTIFIER: 'test' is no number from 0 to 65535",
     },
     Row {
         line: b"bsc add one",
@@ -315,6 +351,8 @@ const GOOD: &[&str] = &[
     "issue 0 0 0 0 0 - -",
     "update 4294967295 255 2 65535 d4",
     "say 65535 3 2 65535 Coast Go up",
+    "say !65535 3 2 65535 Coast Go up",
+    "say test 0 0 0 - Go up",
     "resay 4294967295 2 65535 Go up",
     "alert 65535 3 255 65535 255 - Coast",
     "realert 4294967295 255 65535 255 -",
