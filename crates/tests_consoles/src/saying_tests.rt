@@ -112,11 +112,11 @@ warning 5 4352 0x1100 C000 active cbs areas Coast awaited 1 onair 0 failed 0 lef
 dcs 15 category 0 period 30
 text Flood
 pages 1
-bad line
-bad line
-bad line
-bad line
-bad line
+bad line: word 2, IDENTIFIER-OR-NAME: 'Test' is no number from 0 to 65535 and no name of one
+bad line: word 2, IDENTIFIER-OR-NAME: '!test' is no number from 0 to 65535 and no name of one
+bad line: word 2, IDENTIFIER-OR-NAME: '!' is no number from 0 to 65535 and no name of one
+bad line: word 2, IDENTIFIER-OR-NAME: '!65536' is no number from 0 to 65535 and no name of one
+bad line: word 2, IDENTIFIER-OR-NAME: '!!437' is no number from 0 to 65535 and no name of one
 ";
 
 /// Lines that are refused: words that are no line; a text that is Latin-1, that ends within a letter, that has a letter outside of
@@ -150,7 +150,7 @@ resay 2 0 30 Test
 const REFUSALS: &[u8] = b"\
 bad line: there is no text
 bad line: there is no text
-bad line: word 2, IDENTIFIER: '65536' is not 0 to 65535
+bad line: word 2, IDENTIFIER-OR-NAME: '65536' is not 0 to 65535
 bad line: word 3, SCOPE: '4' is not 0 to 3
 bad line: word 4, CATEGORY: '3' is not 0 to 2
 bad line: word 5, PERIOD: '65536' is not 0 to 65535
