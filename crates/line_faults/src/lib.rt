@@ -22,5 +22,7 @@ pub use finding::fault_of;
 pub use laws::texts_are_printable;
 pub use line_fault::LineFault;
 pub use nearness::distance;
+pub use quoting::shown;
 pub use stray::Stray;
+pub use straying::letters;
 pub use texts::fault_text;

@@ -69,7 +69,7 @@ fn front(word: &[u8]) -> &[u8]
 }
 
 /// What is shown of a word: no octet of it is printed that isn't printable.
-pub(crate) fn shown(alloc: Global, word: &[u8]) -> Result<String, AllocError>
+pub fn shown(alloc: Global, word: &[u8]) -> Result<String, AllocError>
     ensures { IfOk result (λ text. string_bytes text ≡ shown word.now) }
 {
     let mut text = String::new(alloc);

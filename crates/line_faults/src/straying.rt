@@ -35,7 +35,7 @@ fn first_stray(line: &[u8]) -> Option<(Stray, usize)>
 }
 
 /// How many letters the octets have.
-fn letters(octets: &[u8]) -> usize
+pub fn letters(octets: &[u8]) -> usize
     ensures count { result ≡ letters octets.now }
     ensures most { result ≤ length octets.now }
 {

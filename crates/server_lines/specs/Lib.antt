@@ -1,3 +1,4 @@
 pub mod Rest
 pub mod ServerGrammar
 pub mod TextGrammar
+pub mod Typing

@@ -17,6 +17,8 @@ pub mod server_line;
 mod text_grammar;
 pub mod text_heading;
 pub mod text_line;
+mod typing;
 
 pub use laws::other_words_stand_behind;
 pub use text_grammar::read_said_identifier;
+pub use typing::{escape_fault, typed_text};

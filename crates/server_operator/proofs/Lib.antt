@@ -3,4 +3,3 @@ pub mod BatchLemmas
 pub mod HearingLemmas
 pub mod ListingLemmas
 pub mod SubmittingLemmas
-pub mod TypingLemmas

@@ -9,6 +9,7 @@ use Rattle.message_identifiers.specs.Lookups.{usage_of}
 use Rattle.message_identifiers.specs.Nearness.{is_text}
 use Rattle.message_text.specs.Reading.{read_text}
 use Rattle.message_text.specs.Texts.{HasRoom, IsPlain, NeedsMore, coding_for, dcs_of}
+use Rattle.server_lines.specs.Typing.{typed_text}
 use Rattle.server_lines.specs.declared.said_heading.SaidHeading.{SaidHeading}
 use Rattle.server_lines.specs.declared.said_identifier.SaidIdentifier.{SaidIdentifier}
 use Rattle.server_lines.specs.declared.text_heading.TextHeading.{TextHeading}
@@ -18,26 +19,6 @@ use Rattle.server_operator.specs.declared.said.Said.{Said}
 use Rattle.server_operator.specs.declared.said.Said.TheVariants as said
 use Rattle.warning_book.specs.declared.content.Content.{Content}
 use Rattle.warning_book.specs.declared.content.Content.TheVariants as content
-
--- what stands for itself behind a backslash: `n` for a line feed, and the backslash, which is 92
-abbrev pub escaped_octet : ℕ → Option ℕ
-escaped_octet x = if x == 110 then Some 10 else (if x == 92 then Some 92 else None)
-
--- this octet in front of the others
-abbrev pub in_front : Option ℕ → Option (List ℕ) → Option (List ℕ)
-in_front None rest = None
-in_front (Some x) rest = option_map (λ others. x ∷ others) rest
-
--- the text that octets spell as they are typed, behind a backslash and not; a backslash before anything else spells none
-abbrev pub typed_from : Bool → List ℕ → Option (List ℕ)
-typed_from true [] = None
-typed_from false [] = Some []
-typed_from true (x ∷ xs) = in_front (escaped_octet x) (typed_from false xs)
-typed_from false (x ∷ xs) = if x == 92 then typed_from true xs else in_front (Some x) (typed_from false xs)
-
--- the text that was typed
-abbrev pub typed_text : List ℕ → Option (List ℕ)
-typed_text octets = typed_from false octets
 
 -- the pages are read as the text, in the coding of its letters
 pub record HavePages (text : List ℕ) (dcs : ℕ) (pages : List (List ℕ)) : Type 0 where

@@ -31,7 +31,6 @@ mod server;
 mod submitting;
 mod terminal;
 mod timed_input;
-mod typing;
 
 pub use air::Air;
 pub use leaving::Leaving;

@@ -5,7 +5,6 @@ ghost use Rattle.message_text.specs.Texts.{IsPlain};
 ghost use Rattle.server_operator.specs.Saying.{ArePages, ArePagesTyped, IsBadText, IsIssueSaid, IsSaid, IsSaidContent, is_unusual};
 
 use crate::said::Said;
-use crate::typing::typed_text;
 use common::{Names, Octets};
 use coverage_plan::Edit;
 use message_identifiers::usage::Usage;
@@ -15,6 +14,7 @@ use server_lines::said_heading::SaidHeading;
 use server_lines::said_identifier::SaidIdentifier;
 use server_lines::text_heading::TextHeading;
 use server_lines::text_line::TextLine;
+use server_lines::typed_text;
 use std::alloc::{AllocError, Global};
 use warning_book::{CbsContent, Content, ContentPages, Notice};
 

@@ -3,7 +3,7 @@ use Rattle.std.proofs.Common.{◌≡◌, ◌∙◌, ℕ, ◌+◌, ◌<◌, Bool,
 use Rattle.std.proofs.lemmas.Bool.{eq-eqb, ne_eqb}
 use Rattle.std.proofs.lemmas.List.{drop_more}
 use Rattle.std.specs.Option.{option_map}
-use Rattle.server_operator.specs.Saying.{escaped_octet, in_front, typed_from, typed_text}
+use Rattle.server_lines.specs.Typing.{escaped_octet, in_front, typed_from, typed_text}
 
 -- the text so far, and behind it what the octets that are left spell
 abbrev pub text_with : List ℕ → Option (List ℕ) → Option (List ℕ)

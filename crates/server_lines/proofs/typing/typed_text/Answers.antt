@@ -1,8 +1,8 @@
 use Rattle.std.proofs.Common.{◌≡◌, [], ◌∷◌, ◌++◌, Some, get_or}
-use Rattle.server_operator.proofs.TypingLemmas.{backslash_read, escaped_read, other_read}
-use Rattle.server_operator.specs.Saying.{escaped_octet}
-use Rattle.server_operator.proofs.typing.typed_text.Goals as goal
-use Rattle.server_operator.proofs.typing.typed_text.Goals.{then-is_escaped+in-Some+in_ok-push, else-is_escaped+then-octet-eq92, else-is_escaped+else-octet-eq92+in_ok-push-2}
+use Rattle.server_lines.proofs.TypingLemmas.{backslash_read, escaped_read, other_read}
+use Rattle.server_lines.specs.Typing.{escaped_octet}
+use Rattle.server_lines.proofs.typing.typed_text.Goals as goal
+use Rattle.server_lines.proofs.typing.typed_text.Goals.{then-is_escaped+in-Some+in_ok-push, else-is_escaped+then-octet-eq92, else-is_escaped+else-octet-eq92+in_ok-push-2}
 
 pub loop-octet-preserved : goal.loop-octet-preserved
 loop-octet-preserved c =

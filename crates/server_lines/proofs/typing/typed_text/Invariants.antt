@@ -1,7 +1,7 @@
 use Rattle.std.proofs.Common.{◌≡◌, drop}
-use Rattle.server_operator.specs.Saying.{typed_from, typed_text}
-use Rattle.server_operator.proofs.TypingLemmas.{text_with}
-use Rattle.server_operator.proofs.typing.typed_text.Given as goal
+use Rattle.server_lines.specs.Typing.{typed_from, typed_text}
+use Rattle.server_lines.proofs.TypingLemmas.{text_with}
+use Rattle.server_lines.proofs.typing.typed_text.Given as goal
 
 -- the text so far, and that of the octets that are left, is the whole
 abbrev pub invariant-loop-octet : goal.invariant-loop-octet
