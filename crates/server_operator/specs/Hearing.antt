@@ -20,6 +20,7 @@ use Rattle.server_lines.specs.declared.list_line.ListLine.{ListLine}
 use Rattle.server_lines.specs.declared.server_line.ServerLine.{ServerLine}
 use Rattle.server_lines.specs.declared.server_line.ServerLine.TheVariants as line
 use Rattle.server_lines.specs.declared.text_line.TextLine.{TextLine}
+use Rattle.server_operator.specs.Explaining.{IsExplainedHeard}
 use Rattle.server_operator.specs.Leavings.{leaving_of}
 use Rattle.server_operator.specs.Listing.{IsListAnswer, IsStatusAnswer}
 use Rattle.server_operator.specs.Responding.{IsAnswer}
@@ -122,6 +123,8 @@ IsHeardIn before may_watch octets [] after h = IsUnheard before after h
 IsHeardIn before may_watch octets (first ∷ words) after h =
     MatchBool (is_comment first) (IsUnheard before after h) (IsHeardIf before may_watch octets (server_line_of octets (first ∷ words)) after h)
 
--- what comes of a line of these octets
-abbrev pub IsHeardOf : DeskState → Bool → List ℕ → DeskState → Heard → Type 0
-IsHeardOf before may_watch octets after h = IsHeardIn before may_watch octets (words_of octets) after h
+-- what comes of a line of these octets, with the reason where it was refused for a cause of which more is known
+pub record IsHeardOf (before : DeskState) (may_watch : Bool) (octets : List ℕ) (after : DeskState) (h : Heard) : Type 0 where
+  pub first : Heard
+  pub heard_first : IsHeardIn before may_watch octets (words_of octets) after first
+  pub explained : IsExplainedHeard after octets first h

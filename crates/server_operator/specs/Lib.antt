@@ -1,6 +1,7 @@
 pub mod Asking
 pub mod Batches
 pub mod Downs
+pub mod Explaining
 pub mod Hearing
 pub mod Leavings
 pub mod Listing

@@ -5,6 +5,7 @@ ghost use Rattle.server_operator.specs.Hearing.{IsBadAnswer, IsHeard, IsHeardAs,
 ghost use Rattle.server_operator.specs.Responding.{IsAnswer};
 ghost use Rattle.server_operator.specs.Submitting.{IsCutAnswer};
 
+use crate::explaining::explained;
 use crate::heard::Heard;
 use crate::leaving::leaving_of;
 use crate::listing::{list, status};
@@ -208,7 +209,6 @@ pub(crate) fn hear<L: Ledger, S: Server, R: Wait + Clock>(
     ensures { IfOk result (IsHeardOf desk.old operator.now.may_watch line.now desk.new) }
 {
     let words = split_words(operator.alloc, line)?;
-    let heard = hear_words(rt, operator, desk, line, words.as_slice());
-    drop(words);
-    heard
+    let heard = hear_words(rt, operator, desk, line, words.as_slice())?;
+    explained(rt, operator, desk, line, words.as_slice(), heard)
 }

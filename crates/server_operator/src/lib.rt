@@ -5,7 +5,8 @@
 //! its event in `submitting`, its question in `asking`. The edits of lines with a text are in `saying`, the lists in
 //! `listing`. How lines come in is in `reading` and `terminal`, how their answers are written in `delivering` and `batch`, and what is
 //! said of BSCs whose link is down in `downs`, and of BSCs of two repetition periods in `period_notices`. What is promised of the office
-//! stands in `office`, what a line is in `server_lines`, and what its answer is in `console_text`.
+//! stands in `office`, what a line is in `server_lines`, what its answer is in `console_text`, and the reason behind a refusal in
+//! `refusal_reasons` and `explaining`.
 #![tactic(auto)]
 
 mod air;
@@ -14,6 +15,7 @@ mod batch;
 mod beside;
 mod delivering;
 mod downs;
+mod explaining;
 mod heard;
 mod hearing;
 mod leaving;

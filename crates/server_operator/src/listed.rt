@@ -50,7 +50,8 @@ pub(crate) fn cells_in(value: &SeenValue) -> &[CellRow]
     }
 }
 
-fn areas_in(value: &SeenValue) -> &[AreaRow]
+/// The rows of areas that were seen, if areas were.
+pub(crate) fn areas_in(value: &SeenValue) -> &[AreaRow]
     ensures { result.now ≡ areas_in value.now }
 {
     match value {

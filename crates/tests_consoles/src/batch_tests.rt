@@ -52,7 +52,7 @@ const TOGETHER: &[Row] = &[
         },
         ended: Ok(Leaving::Ended),
         seen: 1_44444_234_1,
-        answers: b"ok 1\nok 2\nno 4 BscExists\nno 16 NoSuchWarning\n",
+        answers: b"ok 1\nok 2\nno 4 BscExists\nno 16 NoSuchWarning: no warning 1\n",
     },
     Row {
         at: "a line at a time",

@@ -23,7 +23,7 @@ const TWO: &[Step] = &[
     Sends(1, b"bsc add 3\n"),
     Reads(1, b"ok 3\n"),
     Sends(0, b"bsc add 4\nboard 1\n"),
-    Reads(0, b"ok 4\nno 16 NoSuchWarning\n"),
+    Reads(0, b"ok 4\nno 16 NoSuchWarning: no warning 1\n"),
     Closes(0),
 ];
 
@@ -38,12 +38,12 @@ const EACH: &[Step] = &[
     Sends(0, b"area add Coast\nareas\narea Coast\narea Port\n"),
     Reads(
         0,
-        b"ok 2\narea Coast selectors 0\nareas 1\narea Coast none\nselectors 0\nno 12 NoSuchArea\n",
+        b"ok 2\narea Coast selectors 0\nareas 1\narea Coast none\nselectors 0\nno 12 NoSuchArea: no area Port\n",
     ),
     Sends(0, b"warnings\nwarning 1\nfailed 1\nwish 1 1\ncut 1\nup 1\n"),
     Reads(
         0,
-        b"warnings 0\nno 16 NoSuchWarning\nno 16 NoSuchWarning\nno 16 NoSuchWarning\nno 30 LinkNotUp\nbad line\n",
+        b"warnings 0\nno 16 NoSuchWarning: no warning 1\nno 16 NoSuchWarning: no warning 1\nno 16 NoSuchWarning: no warning 1\nno 30 LinkNotUp\nbad line\n",
     ),
     Sends(
         0,
@@ -99,7 +99,7 @@ const TOGETHER: &[Step] = &[
     ),
     Reads(
         0,
-        b"ok 1\nok 2\nno 4 BscExists\nbad line: no line begins with 'what'; help lists all lines\nok 3\nno 16 NoSuchWarning\nok 4\n",
+        b"ok 1\nok 2\nno 4 BscExists\nbad line: no line begins with 'what'; help lists all lines\nok 3\nno 16 NoSuchWarning: no warning 1\nok 4\n",
     ),
     Sends(0, b"d 5\nquit\nbsc add 6\n"),
     Reads(0, b"ok 5\nbye\n"),

@@ -141,7 +141,7 @@ ok 18 serial C021
 ok 19
 ok 20
 no 17 NotActive
-no 16 NoSuchWarning
+no 16 NoSuchWarning: no warning 9
 no 3 NoSuchBsc
 ";
 

@@ -40,6 +40,8 @@ mod scripts;
 #[cfg(test)]
 mod socket_tests;
 #[cfg(test)]
+mod typing_error_tests;
+#[cfg(test)]
 mod watch_tests;
 #[cfg(test)]
 mod wish_tests;

@@ -184,7 +184,7 @@ area Coast selectors 3
 areas 1
 area Coast 100/7,100/8,200
 selectors 3
-no 12 NoSuchArea
+no 12 NoSuchArea: no area Hill
 warning 1 4370 0x1112 C000 active cbs areas Coast awaited 1 onair 0 failed 2 left 0 broadcasts 0
 warnings 1
 warning 1 4370 0x1112 C000 active cbs areas Coast awaited 1 onair 0 failed 2 left 0 broadcasts 0
@@ -193,7 +193,7 @@ over since 12:01:03
 dcs 15 category 0 period 30
 text Test
 pages 1
-no 16 NoSuchWarning
+no 16 NoSuchWarning: no warning 2
 failed 100 7 at 1 down
 failed 100 8 at 1 refused 9 cell broadcast not supported
 failures 2

@@ -156,18 +156,18 @@ bad line: word 4, CATEGORY: '3' is not 0 to 2
 bad line: word 5, PERIOD: '65536' is not 0 to 65535
 bad line: there is no text
 bad line: word 4, PERIOD: 'x' is no number from 0 to 65535
-bad text
-bad text
-bad text
-bad text
-bad text
-bad text
-bad text
-bad text
-no 12 NoSuchArea
+bad text: no UTF-8 from octet 4 of the text on
+bad text: no UTF-8 from octet 4 of the text on
+bad text: U+01F30A at letter 1 of the text: no page has a letter above U+FFFF, as an emoji
+bad text: U+000007 at letter 2 of the text: a control letter; a text has line feeds alone, typed as \\n
+bad text: U+00000D at letter 2 of the text: a control letter; a text has line feeds alone, typed as \\n
+bad text: a backslash before 't' at letter 2 of the text: n or a backslash alone may stand behind it
+bad text: a backslash before '' at letter 2 of the text: n or a backslash alone may stand behind it
+bad text: no UTF-8 from octet 4 of the text on
+no 12 NoSuchArea: no area Hill
 no 21 NoAreas
 no 26 BadPeriod
-no 16 NoSuchWarning
+no 16 NoSuchWarning: no warning 9
 ok 7 warning 2 serial 4000
 no 27 WrongKind
 ";
@@ -228,9 +228,30 @@ fn counts<L: Ledger, R: Wait + Clock + Abort>(rt: &R, alloc: Global, blank: Blan
     requires desks { blank.parts ≡ 1025 }
 {
     let (office, _) = linked::<L, R>(rt, alloc, blank, 1000);
-    is_answered_of(rt, alloc, &office, b"a", 1396, b"no 25 BadPages\n");
-    is_answered_of(rt, alloc, &office, b"{", 691, b"no 25 BadPages\n");
-    is_answered_of(rt, alloc, &office, b"\xc5\x81", 616, b"no 25 BadPages\n");
+    is_answered_of(
+        rt,
+        alloc,
+        &office,
+        b"a",
+        1396,
+        b"no 25 BadPages: the text needs 16 pages, and 15 are the most\n",
+    );
+    is_answered_of(
+        rt,
+        alloc,
+        &office,
+        b"{",
+        691,
+        b"no 25 BadPages: the text needs 16 pages, and 15 are the most\n",
+    );
+    is_answered_of(
+        rt,
+        alloc,
+        &office,
+        b"\xc5\x81",
+        616,
+        b"no 25 BadPages: the text needs 16 pages, and 15 are the most\n",
+    );
     is_answered_of(
         rt,
         alloc,

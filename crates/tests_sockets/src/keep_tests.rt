@@ -73,7 +73,7 @@ const GOES_ON: &[Kept] = &[
                 0,
             )],
             answers: Wanted::Is(
-                "ok 1\nno 4 BscExists\nok 2\nno 16 NoSuchWarning\nfolded 2\nsettled 2\n",
+                "ok 1\nno 4 BscExists\nok 2\nno 16 NoSuchWarning: no warning 1\nfolded 2\nsettled 2\n",
             ),
             ..USUAL
         },

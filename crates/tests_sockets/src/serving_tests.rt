@@ -57,7 +57,7 @@ const LINES: &str =
     "# a comment\n\nup 1\ndown 1\nsend 1\nask 1 1\nrx 1 00\ngen 1 1\nfly\nwish 1\nwish 1 1\nbsc add 7\nwish 7 1\narea add Coast\nissue 4370 3 15 0 30 d4 Coast\nissue 4370 3 15 0 30 4 Coast\nwish 7 1\nwish 7 1 100 7\nwish 7 1 100 70000\npending 7\ntable 7\nboard 1\nboard 1 Coast\nboard 2\nupdate 1 15 0 30 d4\nretry 7\nrebuild\ncheckpoint\ncheckpoint 1\ncheckpoint\nquit\nbsc add 8\n";
 
 const ANSWERS: &str =
-    "bad line\nbad line\nbad line\nbad line\nbad line\nbad line\nbad line: no line begins with 'fly'; help lists all lines\nbad line: missing: WARNING\nno 3 NoSuchBsc\nok 1\nno 16 NoSuchWarning\nok 2\nok 3 warning 1 serial C000\nbad hex\nwished\nwished\nbad line: word 5, CI: '70000' is not 0 to 65535\ngroups 0\nkeys 0\nawaited 0 onair 0 failed 0 left 0 broadcasts 0\nawaited 0 onair 0 failed 0 left 0 broadcasts 0\nno 16 NoSuchWarning\nok 4 serial C001\nok 5\nrebuilt\nfolded 5\nbad line: words too many: 1\nfolded 0\nsettled 5\n";
+    "bad line\nbad line\nbad line\nbad line\nbad line\nbad line\nbad line: no line begins with 'fly'; help lists all lines\nbad line: missing: WARNING\nno 3 NoSuchBsc\nok 1\nno 16 NoSuchWarning: no warning 1\nok 2\nok 3 warning 1 serial C000\nbad hex\nwished\nwished\nbad line: word 5, CI: '70000' is not 0 to 65535\ngroups 0\nkeys 0\nawaited 0 onair 0 failed 0 left 0 broadcasts 0\nawaited 0 onair 0 failed 0 left 0 broadcasts 0\nno 16 NoSuchWarning: no warning 2\nok 4 serial C001\nok 5\nrebuilt\nfolded 5\nbad line: words too many: 1\nfolded 0\nsettled 5\n";
 
 /// The lines by which a script plays the part of a link are bad lines; a wish is refused by the rules of the register and the book.
 #[test]
