@@ -14,13 +14,15 @@ forms =
     ∷ codes "area put AREA LAC" ∷ codes "area put AREA LAC CI" ∷ codes "area cut AREA LAC" ∷ codes "area cut AREA LAC CI"
     ∷ codes "issue IDENTIFIER SCOPE DCS CATEGORY PERIOD PAGES AREAS" ∷ codes "update WARNING DCS CATEGORY PERIOD PAGES"
     ∷ codes "say IDENTIFIER-OR-NAME SCOPE CATEGORY PERIOD AREAS TEXT" ∷ codes "resay WARNING CATEGORY PERIOD TEXT"
+    ∷ codes "preview TEXT" ∷ codes "plain say IDENTIFIER-OR-NAME SCOPE CATEGORY PERIOD AREAS TEXT"
+    ∷ codes "plain resay WARNING CATEGORY PERIOD TEXT" ∷ codes "plain preview TEXT"
     ∷ codes "alert IDENTIFIER SCOPE INDICATOR WARNING-TYPE WARNING-PERIOD SECURITY AREAS"
     ∷ codes "realert WARNING INDICATOR WARNING-TYPE WARNING-PERIOD SECURITY"
     ∷ codes "widen WARNING AREA" ∷ codes "narrow WARNING AREA" ∷ codes "stop WARNING" ∷ codes "forget WARNING"
     ∷ codes "warning WARNING" ∷ codes "failed WARNING" ∷ codes "board WARNING" ∷ codes "board WARNING AREA"
     ∷ codes "wish BSC WARNING" ∷ codes "wish BSC WARNING LAC CI"
     ∷ codes "retry BSC" ∷ codes "cut BSC" ∷ codes "cells BSC" ∷ codes "pending BSC" ∷ codes "table BSC"
-    ∷ codes "bscs" ∷ codes "links" ∷ codes "areas" ∷ codes "warnings" ∷ codes "peers" ∷ codes "status" ∷ codes "help"
+    ∷ codes "bscs" ∷ codes "links" ∷ codes "areas" ∷ codes "warnings" ∷ codes "peers" ∷ codes "status" ∷ codes "help" ∷ codes "help WORD"
     ∷ codes "checkpoint" ∷ codes "rebuild" ∷ codes "watch" ∷ codes "quit" ∷ codes "shutdown" ∷ []
 
 -- a word of a form is a name if it begins with a capital letter

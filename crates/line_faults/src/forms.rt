@@ -15,7 +15,7 @@ use std::alloc::{AllocError, Global};
 
 /// Each form, as the page of formats has it. A word of small letters is typed as it stands, one of capital letters is the name of what
 /// is typed there. Of those that begin alike the shorter ones stand first.
-const FORMS: [&str; 45] = [
+const FORMS: [&str; 50] = [
     "bsc add BSC",
     "bsc remove BSC",
     "cell add LAC CI BSC",
@@ -32,6 +32,10 @@ const FORMS: [&str; 45] = [
     "update WARNING DCS CATEGORY PERIOD PAGES",
     "say IDENTIFIER-OR-NAME SCOPE CATEGORY PERIOD AREAS TEXT",
     "resay WARNING CATEGORY PERIOD TEXT",
+    "preview TEXT",
+    "plain say IDENTIFIER-OR-NAME SCOPE CATEGORY PERIOD AREAS TEXT",
+    "plain resay WARNING CATEGORY PERIOD TEXT",
+    "plain preview TEXT",
     "alert IDENTIFIER SCOPE INDICATOR WARNING-TYPE WARNING-PERIOD SECURITY AREAS",
     "realert WARNING INDICATOR WARNING-TYPE WARNING-PERIOD SECURITY",
     "widen WARNING AREA",
@@ -56,6 +60,7 @@ const FORMS: [&str; 45] = [
     "peers",
     "status",
     "help",
+    "help WORD",
     "checkpoint",
     "rebuild",
     "watch",
@@ -70,10 +75,10 @@ fn push_form(alloc: Global, forms: &mut Vec<Name>, form: &str) -> Result<(), All
     Ok(())
 }
 
-fn copied(alloc: Global, forms: &[&str]) -> Result<Names, AllocError>
+pub(crate) fn copied(alloc: Global, forms: &[&str]) -> Result<Names, AllocError>
     ensures { IfOk result (λ names. names ≡ map (λ form. form.now) forms.now) }
 {
-    let mut names = Vec::with_capacity(alloc, 45)?;
+    let mut names = Vec::with_capacity(alloc, 50)?;
     for form in forms {
         push_form(alloc, &mut names, form)?;
     }
@@ -85,7 +90,7 @@ fn copied(alloc: Global, forms: &[&str]) -> Result<Names, AllocError>
 pub(crate) fn forms(alloc: Global) -> Result<Names, AllocError>
     ensures { IfOk result (λ names. names ≡ forms) }
 {
-    let all: [&str; 45] = FORMS;
+    let all: [&str; 50] = FORMS;
     copied(alloc, all.as_slice())
 }
 

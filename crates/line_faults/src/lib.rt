@@ -7,8 +7,10 @@
 
 mod bounds;
 mod choosing;
+mod example_lines;
 mod finding;
 mod forms;
+mod helping;
 mod laws;
 mod line_fault;
 mod nearest;
@@ -18,7 +20,9 @@ mod stray;
 mod straying;
 mod texts;
 
+pub use example_lines::examples;
 pub use finding::fault_of;
+pub use helping::help_on;
 pub use laws::texts_are_printable;
 pub use line_fault::LineFault;
 pub use nearness::distance;

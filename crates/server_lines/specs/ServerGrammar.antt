@@ -3,11 +3,11 @@ use Rattle.std.specs.Prelude.{ℕ, List, [], ◌∷◌, Option, Some, None, byte
 use Rattle.std.specs.Option.{option_map}
 use Rattle.common.specs.declared.cell.Cell.{Cell}
 use Rattle.console_text.specs.Grammar.{bsc_of, cell_of, if_some, line_of, warning_of}
-use Rattle.server_lines.specs.TextGrammar.{text_line_of}
+use Rattle.server_lines.specs.TextGrammar.{preview_of, text_line_of}
 use Rattle.server_lines.specs.declared.list_line.ListLine.TheVariants as list
 use Rattle.server_lines.specs.declared.server_line.ServerLine.{ServerLine}
 use Rattle.server_lines.specs.declared.text_line.TextLine.{TextLine}
-use Rattle.server_lines.specs.declared.server_line.ServerLine.TheVariants.{Quit, Shutdown, Watch, CutLink, Wish, Peers, Status, Help, List as ListOf, Text, Centre}
+use Rattle.server_lines.specs.declared.server_line.ServerLine.TheVariants.{Quit, Shutdown, Watch, CutLink, Wish, Peers, Status, Help, HelpOn, Preview, List as ListOf, Text, Centre}
 
 -- B and W of `wish`, where that cell is given or none
 abbrev pub wish : List ℕ → List ℕ → Option Cell → Option ServerLine
@@ -32,7 +32,8 @@ own_line_of (verb ∷ []) =
     else if bytes_eq verb (codes "help") then Some Help
     else None
 own_line_of (verb ∷ x ∷ []) =
-    if bytes_eq verb (codes "cut") then option_map CutLink (bsc_of x)
+    if bytes_eq verb (codes "help") then Some (HelpOn x)
+    else if bytes_eq verb (codes "cut") then option_map CutLink (bsc_of x)
     else if bytes_eq verb (codes "cells") then option_map (λ b. ListOf (list.Cells b)) (bsc_of x)
     else if bytes_eq verb (codes "area") then Some (ListOf (list.Area x))
     else if bytes_eq verb (codes "warning") then option_map (λ w. ListOf (list.Warning w)) (warning_of x)
@@ -52,6 +53,11 @@ abbrev pub or_textless : Option TextLine → List (List ℕ) → Option ServerLi
 or_textless (Some line) words = Some (Text line)
 or_textless None words = or_centre (own_line_of words) words
 
+-- the line that asks what a text takes; else one that has a text or none
+abbrev pub or_text : Option (List ℕ) → List ℕ → List (List ℕ) → Option ServerLine
+or_text (Some text) line words = Some (Preview text)
+or_text None line words = or_textless (text_line_of line words) words
+
 -- the line, by its octets and its words
 abbrev pub server_line_of : List ℕ → List (List ℕ) → Option ServerLine
-server_line_of line words = or_textless (text_line_of line words) words
+server_line_of line words = or_text (preview_of line words) line words

@@ -2,6 +2,7 @@
 use Rattle.std.specs.Prelude.{ℕ, ◌==◌, true, false, List, [], ◌∷◌, Option, Some, None, bytes_eq, codes, option_map, if◌then◌else◌}
 use Rattle.console_text.specs.Grammar.{category_of, if_some, names_of, scope_of, two_octets_of, warning_of}
 use Rattle.message_identifiers.specs.Lookups.{number_of}
+use Rattle.message_text.specs.Plain.{plain_text}
 use Rattle.server_lines.specs.Rest.{behind_words}
 use Rattle.server_lines.specs.declared.said_heading.SaidHeading.{SaidHeading}
 use Rattle.server_lines.specs.declared.said_identifier.SaidIdentifier.{SaidIdentifier}
@@ -69,10 +70,34 @@ abbrev pub resay_of : List ℕ → List (List ℕ) → Option TextLine
 resay_of line (warning ∷ category ∷ period ∷ first ∷ more) = resay warning category period (behind_words 4 line)
 resay_of line words = None
 
--- the line that has a text, by its octets and its words
-abbrev pub text_line_of : List ℕ → List (List ℕ) → Option TextLine
-text_line_of line [] = None
-text_line_of line (verb ∷ words) =
+-- the line that has a text as it is typed
+abbrev pub typed_line_of : List ℕ → List (List ℕ) → Option TextLine
+typed_line_of line [] = None
+typed_line_of line (verb ∷ words) =
     if bytes_eq verb (codes "say") then say_of line words
     else if bytes_eq verb (codes "resay") then resay_of line words
     else None
+
+-- the same line with its text in plain letters
+abbrev pub plain_line : TextLine → TextLine
+plain_line (Say h areas text) = Say h areas (plain_text text)
+plain_line (Resay w h text) = Resay w h (plain_text text)
+
+-- the line that has a text, by its octets and its words; behind `plain` stands one whose text is meant in plain letters
+abbrev pub text_line_of : List ℕ → List (List ℕ) → Option TextLine
+text_line_of line [] = None
+text_line_of line (verb ∷ words) =
+    if bytes_eq verb (codes "plain") then option_map plain_line (typed_line_of (behind_words 1 line) words)
+    else typed_line_of line (verb ∷ words)
+
+-- the text of `preview`
+abbrev pub typed_preview_of : List ℕ → List (List ℕ) → Option (List ℕ)
+typed_preview_of line (verb ∷ first ∷ more) = if bytes_eq verb (codes "preview") then Some (behind_words 1 line) else None
+typed_preview_of line words = None
+
+-- the same, in plain letters behind `plain`
+abbrev pub preview_of : List ℕ → List (List ℕ) → Option (List ℕ)
+preview_of line [] = None
+preview_of line (verb ∷ words) =
+    if bytes_eq verb (codes "plain") then option_map plain_text (typed_preview_of (behind_words 1 line) words)
+    else typed_preview_of line (verb ∷ words)

@@ -2,13 +2,14 @@
 
 ghost use Rattle.std.specs.Prelude.{◌≡◌, [], ◌∷◌, IfOk, option_map};
 ghost use Rattle.console_text.specs.Grammar.{bsc_of, line_of, warning_of};
-ghost use Rattle.server_lines.specs.ServerGrammar.{or_centre, own_line_of, server_line_of, wish, wish_after};
+ghost use Rattle.server_lines.specs.ServerGrammar.{or_centre, or_textless, own_line_of, server_line_of, wish, wish_after};
+ghost use Rattle.server_lines.specs.TextGrammar.{text_line_of};
 ghost use Rattle.server_lines.specs.declared.list_line.ListLine.TheVariants as list;
 ghost use Rattle.server_lines.specs.declared.server_line.ServerLine.TheVariants.{Centre, CutLink, List as ListOf};
 
 use crate::list_line::ListLine;
 use crate::server_line::ServerLine;
-use crate::text_grammar::read_text_line;
+use crate::text_grammar::{read_preview, read_text_line};
 use common::{Cell, Name};
 use console_text::grammar;
 use console_text::grammar::{read_bsc, read_cell, read_warning};
@@ -23,6 +24,20 @@ pub fn read_server_line(
     words: &[Word<'_>],
 ) -> Result<Option<ServerLine>, AllocError>
     ensures { IfOk result (λ found. found ≡ server_line_of line.now words.now) }
+{
+    match read_preview(alloc, line, words)? {
+        Some(text) => Ok(Some(ServerLine::Preview(text))),
+        None => read_text(alloc, line, words),
+    }
+}
+
+/// A line that has a text, or none.
+fn read_text(
+    alloc: Global,
+    line: &[u8],
+    words: &[Word<'_>],
+) -> Result<Option<ServerLine>, AllocError>
+    ensures { IfOk result (λ found. found ≡ or_textless (text_line_of line.now words.now) words.now) }
 {
     match read_text_line(alloc, line, words)? {
         Some(line) => Ok(Some(ServerLine::Text(line))),
@@ -98,11 +113,13 @@ fn read_one(verb: &[u8]) -> Option<ServerLine>
     }
 }
 
-/// `cut B`, `cells B`, `area N`, `warning W`, `failed W`
+/// `help WORD`, `cut B`, `cells B`, `area N`, `warning W`, `failed W`
 fn read_two(alloc: Global, verb: &[u8], x: &[u8]) -> Result<Option<ServerLine>, AllocError>
     ensures { IfOk result (λ line. line ≡ own_line_of (verb.now ∷ x.now ∷ [])) }
 {
-    if is_word(verb, b"cut") {
+    if is_word(verb, b"help") {
+        Ok(Some(ServerLine::HelpOn(read_word(alloc, x)?)))
+    } else if is_word(verb, b"cut") {
         Ok(read_cut(x))
     } else if is_word(verb, b"cells") {
         Ok(read_cells(x))
@@ -115,6 +132,13 @@ fn read_two(alloc: Global, verb: &[u8], x: &[u8]) -> Result<Option<ServerLine>, 
     } else {
         Ok(None)
     }
+}
+
+/// WORD of `help WORD`.
+fn read_word(alloc: Global, x: &[u8]) -> Result<Name, AllocError>
+    ensures { IfOk result (λ name. name ≡ x.now) }
+{
+    Ok(Name::from_vec(Vec::from_slice(alloc, x)?))
 }
 
 /// B of `cut B`.

@@ -17,7 +17,8 @@ board W                         the numbers of warning W
 board W N                       its numbers in area N
 pending B                       the orders that are pending for BSC B
 table B                         what BSC B has reported to be on air
-help                            these lines
+help, help WORD                 these lines; those that begin with WORD, each with an example
+preview TEXT                    what the text takes: letters, pages, coding
 ";
 
 /// The lines for warnings.
@@ -26,6 +27,7 @@ issue M SCOPE DCS CAT PERIOD PAGES AREAS        issues a warning with pages
 update W DCS CAT PERIOD PAGES                   gives it a new version
 say M SCOPE CAT PERIOD AREAS TEXT               issues a warning with a text, in which \\n is a new line
 resay W CAT PERIOD TEXT                         gives it a new version
+plain say .., plain resay .., plain preview ..  the same, with dashes and quotation marks as plain letters
 alert M SCOPE I T P SEC AREAS                   issues an emergency warning
 realert W I T P SEC                             gives it a new version
 widen W N, narrow W N                           an area more, or an area less

@@ -3,7 +3,7 @@
 use crate::list_line::ListLine;
 use crate::text_line::TextLine;
 use cell_register::BscId;
-use common::Cell;
+use common::{Cell, Name, Octets};
 use console_text::line::Line;
 use warning_book::WarningId;
 
@@ -26,6 +26,10 @@ pub enum ServerLine {
     Status,
     /// `help`
     Help,
+    /// `help WORD`
+    HelpOn(Name),
+    /// `preview TEXT`: the text is as it was typed, with its escapes
+    Preview(Octets),
     /// A line that asks for a list.
     List(ListLine),
     /// A line that has a text.

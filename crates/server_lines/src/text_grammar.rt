@@ -3,7 +3,8 @@
 ghost use Rattle.std.specs.Prelude.{◌≡◌, IfOk, MatchOption, option_map};
 ghost use Rattle.console_text.specs.Grammar.{two_octets_of};
 ghost use Rattle.message_identifiers.specs.Lookups.{number_of};
-ghost use Rattle.server_lines.specs.TextGrammar.{behind_mark, meant, or_number, resay, resay_of, said_heading_of, said_identifier_of, say, say_of, text_heading_of, text_line_of, unmeant};
+ghost use Rattle.server_lines.specs.TextGrammar.{behind_mark, meant, or_number, plain_line, preview_of, resay, resay_of, said_heading_of, said_identifier_of, say, say_of, text_heading_of, text_line_of, typed_line_of, typed_preview_of, unmeant};
+ghost use Rattle.message_text.specs.Plain.{plain_text};
 
 use crate::rest::behind_words;
 use crate::said_heading::SaidHeading;
@@ -15,6 +16,7 @@ use console_text::grammar::{read_category, read_names, read_scope, read_two_octe
 use console_text::word::Word;
 use console_text::words::is_word;
 use message_identifiers::number_of;
+use message_text::plain_text;
 use std::alloc::{AllocError, Global};
 
 /// CAT and PERIOD.
@@ -180,6 +182,66 @@ fn read_resay_words(
     }
 }
 
+/// The line that has a text as it is typed.
+fn read_typed_line(
+    alloc: Global,
+    line: &[u8],
+    words: &[Word<'_>],
+) -> Result<Option<TextLine>, AllocError>
+    ensures { IfOk result (λ found. found ≡ typed_line_of line.now words.now) }
+{
+    let [verb, rest @ ..] = words else {
+        return Ok(None);
+    };
+    if is_word(verb.as_slice(), b"say") {
+        read_say_words(alloc, line, rest)
+    } else if is_word(verb.as_slice(), b"resay") {
+        read_resay_words(alloc, line, rest)
+    } else {
+        Ok(None)
+    }
+}
+
+/// The same line with its text in plain letters.
+fn plain_line(alloc: Global, line: TextLine) -> Result<TextLine, AllocError>
+    ensures { IfOk result (λ plain. plain ≡ plain_line line) }
+{
+    match line {
+        TextLine::Say {
+            heading,
+            areas,
+            text,
+        } => Ok(TextLine::Say {
+            heading,
+            areas,
+            text: plain_text(alloc, text.as_slice())?,
+        }),
+        TextLine::Resay {
+            warning,
+            heading,
+            text,
+        } => Ok(TextLine::Resay {
+            warning,
+            heading,
+            text: plain_text(alloc, text.as_slice())?,
+        }),
+    }
+}
+
+/// The line behind `plain`.
+fn read_plain_line(
+    alloc: Global,
+    line: &[u8],
+    words: &[Word<'_>],
+) -> Result<Option<TextLine>, AllocError>
+    ensures { IfOk result (λ found. found ≡ option_map plain_line (typed_line_of line.now words.now)) }
+{
+    match read_typed_line(alloc, line, words)? {
+        Some(found) => Ok(Some(plain_line(alloc, found)?)),
+        None => Ok(None),
+    }
+}
+
 /// The line that has a text, by its octets and its words.
 pub(crate) fn read_text_line(
     alloc: Global,
@@ -191,11 +253,59 @@ pub(crate) fn read_text_line(
     let [verb, rest @ ..] = words else {
         return Ok(None);
     };
-    if is_word(verb.as_slice(), b"say") {
-        read_say_words(alloc, line, rest)
-    } else if is_word(verb.as_slice(), b"resay") {
-        read_resay_words(alloc, line, rest)
+    if is_word(verb.as_slice(), b"plain") {
+        read_plain_line(alloc, behind_words(line, 1), rest)
     } else {
-        Ok(None)
+        read_typed_line(alloc, line, words)
+    }
+}
+
+/// The text of `preview`.
+fn read_typed_preview(
+    alloc: Global,
+    line: &[u8],
+    words: &[Word<'_>],
+) -> Result<Option<Octets>, AllocError>
+    ensures { IfOk result (λ found. found ≡ typed_preview_of line.now words.now) }
+{
+    let [verb, _, ..] = words else {
+        return Ok(None);
+    };
+    if !is_word(verb.as_slice(), b"preview") {
+        return Ok(None);
+    }
+    let text = Vec::from_slice(alloc, behind_words(line, 1))?;
+    Ok(Some(Octets::from_vec(text)))
+}
+
+/// The text of `preview` behind `plain`.
+fn read_plain_preview(
+    alloc: Global,
+    line: &[u8],
+    words: &[Word<'_>],
+) -> Result<Option<Octets>, AllocError>
+    ensures { IfOk result (λ found. found ≡ option_map plain_text (typed_preview_of line.now words.now)) }
+{
+    match read_typed_preview(alloc, line, words)? {
+        Some(text) => Ok(Some(plain_text(alloc, text.as_slice())?)),
+        None => Ok(None),
+    }
+}
+
+/// The text of which a line asks what it takes.
+pub(crate) fn read_preview(
+    alloc: Global,
+    line: &[u8],
+    words: &[Word<'_>],
+) -> Result<Option<Octets>, AllocError>
+    ensures { IfOk result (λ found. found ≡ preview_of line.now words.now) }
+{
+    let [verb, rest @ ..] = words else {
+        return Ok(None);
+    };
+    if is_word(verb.as_slice(), b"plain") {
+        read_plain_preview(alloc, behind_words(line, 1), rest)
+    } else {
+        read_typed_preview(alloc, line, words)
     }
 }

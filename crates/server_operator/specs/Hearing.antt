@@ -8,6 +8,7 @@ use Rattle.console_text.specs.Texts.{refused_text, response_text}
 use Rattle.console_text.specs.Words.{is_comment, words_of}
 use Rattle.console_text.specs.declared.response.Response.{Response}
 use Rattle.coverage_plan.specs.declared.edit.Edit.{Edit as EditOf}
+use Rattle.line_faults.specs.Examples.{IsHelp}
 use Rattle.line_faults.specs.Faults.{IsFault}
 use Rattle.line_faults.specs.Texts.{fault_text}
 use Rattle.line_faults.specs.declared.line_fault.LineFault.{LineFault}
@@ -15,6 +16,7 @@ use Rattle.line_faults.specs.declared.line_fault.LineFault.TheVariants as fault
 use Rattle.message_identifiers.specs.Texts.{unusual_text}
 use Rattle.office.specs.Desks.{DeskState}
 use Rattle.office.specs.Wishes.{IsUnwishedSomewhere, IsWishedSomewhere}
+use Rattle.refusal_reasons.specs.Previews.{IsPreview}
 use Rattle.server_lines.specs.ServerGrammar.{server_line_of}
 use Rattle.server_lines.specs.declared.list_line.ListLine.{ListLine}
 use Rattle.server_lines.specs.declared.server_line.ServerLine.{ServerLine}
@@ -72,6 +74,11 @@ abbrev pub IsAnswered : (List ℕ → Type 0) → Heard → Type 0
 IsAnswered P (heard.Answered text) = P (string_bytes text)
 IsAnswered P other = ⊥
 
+-- such a text is printed
+abbrev pub IsPrinted : (List ℕ → Type 0) → Heard → Type 0
+IsPrinted P (heard.Listed text) = P text
+IsPrinted P other = ⊥
+
 -- a list is printed; where memory runs out for its text, the line is refused
 abbrev pub IsListed : DeskState → ListLine → Heard → Type 0
 IsListed before l (heard.Listed text) = IsListAnswer before l text
@@ -94,6 +101,8 @@ IsHeardAs before (line.Wish b w after_cell) after h = IsAnswered (IsWishAnswer b
 IsHeardAs before line.Peers after h = IsAnswered (λ text. Unit {0}) h × (after ≡ before)
 IsHeardAs before line.Status after h = IsAnswered (IsStatusAnswer before) h × (after ≡ before)
 IsHeardAs before line.Help after h = IsAnswered (λ text. Unit {0}) h × (after ≡ before)
+IsHeardAs before (line.HelpOn word) after h = IsPrinted (IsHelp word) h × (after ≡ before)
+IsHeardAs before (line.Preview text) after h = IsAnswered (IsPreview text) h × (after ≡ before)
 IsHeardAs before (line.List l) after h = IsListed before l h × (after ≡ before)
 IsHeardAs before (line.Text l) after h = IsAnswered (IsSayAnswer before l after) h
 IsHeardAs before (line.CutLink b) after h = IsAnswered (IsTextOf (IsCutAnswer before b after)) h

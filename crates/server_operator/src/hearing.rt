@@ -23,9 +23,10 @@ use console_text::line::Line;
 use console_text::response::Response;
 use console_text::word::Word;
 use console_text::words::{is_comment, split_words};
-use line_faults::{LineFault, fault_of, fault_text};
+use line_faults::{LineFault, fault_of, fault_text, help_on};
 use message_identifiers::unusual_text;
 use office::desk::Desk;
+use refusal_reasons::preview;
 use server_lines::grammar::read_server_line;
 use server_lines::help::help_text;
 use server_lines::list_line::ListLine;
@@ -150,6 +151,10 @@ fn hear_request<L: Ledger, S: Server, R: Wait + Clock>(
         ServerLine::Peers => Ok(Heard::Answered(operator.server.reread_peers(rt)?)),
         ServerLine::Status => Ok(Heard::Answered(status(rt, operator, desk)?)),
         ServerLine::Help => Ok(Heard::Answered(help_text(operator.alloc)?)),
+        ServerLine::HelpOn(word) => Ok(Heard::Listed(help_on(operator.alloc, word.as_slice())?)),
+        ServerLine::Preview(text) => {
+            Ok(Heard::Answered(preview(operator.alloc, text.as_slice())?))
+        }
         ServerLine::Text(line) => Ok(Heard::Answered(say(rt, operator, desk, line)?)),
         ServerLine::CutLink(b) => Ok(Heard::Answered(cut_line(rt, operator, desk, b)?)),
         ServerLine::Centre(line) => Ok(Heard::Answered(console_line(rt, operator, desk, line)?)),

@@ -91,6 +91,14 @@ const UNKNOWN: &[Row] = &[
         text: "word 2: '100' is none of: add move remove",
     },
     Row {
+        line: b"plain widen 1 Coast",
+        text: "word 2: 'widen' is none of: say resay preview",
+    },
+    Row {
+        line: b"plain",
+        text: "word 2 is missing, one of: say resay preview",
+    },
+    Row {
         line: b"bsc Add 1",
         text: "word 2: 'Add' is none of: add remove",
     },
@@ -245,6 +253,18 @@ const COUNTS: &[Row] = &[
         text: "words too many: 1",
     },
     Row {
+        line: b"help say resay",
+        text: "words too many: 1",
+    },
+    Row {
+        line: b"preview",
+        text: "there is no text",
+    },
+    Row {
+        line: b"plain say test 3 0 30 Coast",
+        text: "there is no text",
+    },
+    Row {
         line: b"quit now",
         text: "words too many: 1",
     },
@@ -354,6 +374,10 @@ const GOOD: &[&str] = &[
     "say !65535 3 2 65535 Coast Go up",
     "say test 0 0 0 - Go up",
     "resay 4294967295 2 65535 Go up",
+    "preview Go up",
+    "plain say 65535 3 2 65535 Coast Go up",
+    "plain resay 4294967295 2 65535 Go up",
+    "plain preview Go up",
     "alert 65535 3 255 65535 255 - Coast",
     "realert 4294967295 255 65535 255 -",
     "widen 4294967295 Coast",
@@ -378,6 +402,7 @@ const GOOD: &[&str] = &[
     "peers",
     "status",
     "help",
+    "help say",
     "checkpoint",
     "rebuild",
     "watch",
