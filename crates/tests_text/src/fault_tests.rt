@@ -2,7 +2,7 @@
 
 use crate::checks::yes;
 use console_text::words::split_words;
-use line_faults::{LineFault, fault_of, fault_text};
+use line_faults::{fault_of, fault_text};
 use server_lines::grammar::read_server_line;
 use std::alloc::Global;
 use std::process::Abort;
@@ -22,7 +22,7 @@ fn is_said(rt: &impl Abort, alloc: Global, row: &Row) -> bool {
 }
 
 /// Whether it is a line of a server.
-fn is_line(rt: &impl Abort, alloc: Global, line: &[u8]) -> bool {
+pub(crate) fn is_line(rt: &impl Abort, alloc: Global, line: &[u8]) -> bool {
     let words = split_words(alloc, line).expect(rt, "memory");
     let found = read_server_line(alloc, line, words.as_slice()).expect(rt, "memory");
     found.is_some()
@@ -351,78 +351,6 @@ const QUOTED: &[Row] = &[
 #[test]
 fn no_octet_that_was_typed_steers_a_terminal(rt: HostRuntime) {
     are_said(&rt, rt.alloc(), QUOTED);
-}
-
-/// Each line of a server, with the least and the greatest numbers.
-const GOOD: &[&str] = &[
-    "bsc add 65535",
-    "bsc remove 1",
-    "cell add 0 65535 1",
-    "cell move 65535 0 65535",
-    "cell remove 65535 65535",
-    "area Coast",
-    "area add Coast",
-    "area drop Coast",
-    "area put Coast 65535",
-    "area put Coast 0 65535",
-    "area cut Coast 0",
-    "area cut Coast 65535 0",
-    "issue 65535 3 255 2 65535 d4 Coast",
-    "issue 0 0 0 0 0 - -",
-    "update 4294967295 255 2 65535 d4",
-    "say 65535 3 2 65535 Coast Go up",
-    "say !65535 3 2 65535 Coast Go up",
-    "say test 0 0 0 - Go up",
-    "resay 4294967295 2 65535 Go up",
-    "preview Go up",
-    "plain say 65535 3 2 65535 Coast Go up",
-    "plain resay 4294967295 2 65535 Go up",
-    "plain preview Go up",
-    "alert 65535 3 255 65535 255 - Coast",
-    "realert 4294967295 255 65535 255 -",
-    "widen 4294967295 Coast",
-    "narrow 0 Coast",
-    "stop 4294967295",
-    "forget 4294967295",
-    "warning 4294967295",
-    "failed 4294967295",
-    "board 4294967295",
-    "board 4294967295 Coast",
-    "wish 65535 4294967295",
-    "wish 65535 4294967295 65535 65535",
-    "retry 65535",
-    "cut 65535",
-    "cells 65535",
-    "pending 65535",
-    "table 65535",
-    "bscs",
-    "links",
-    "areas",
-    "warnings",
-    "peers",
-    "status",
-    "help",
-    "help say",
-    "checkpoint",
-    "rebuild",
-    "watch",
-    "quit",
-    "shutdown",
-];
-
-fn is_not_here(fault: &LineFault) -> bool {
-    matches!(fault, LineFault::NotHere)
-}
-
-/// The table of forms has each line of a server: nothing is wrong with its words.
-#[test]
-fn the_table_has_each_line(rt: HostRuntime) {
-    let alloc = rt.alloc();
-    for line in GOOD {
-        yes(&rt, is_line(&rt, alloc, line.as_bytes()), line);
-        let fault = fault_of(alloc, line.as_bytes()).expect(&rt, "memory");
-        yes(&rt, is_not_here(&fault), line);
-    }
 }
 
 #[test]

@@ -8,6 +8,8 @@ mod events_of_lines;
 #[cfg(test)]
 mod fault_tests;
 #[cfg(test)]
+mod form_tests;
+#[cfg(test)]
 mod help_tests;
 #[cfg(test)]
 mod line_tests;
